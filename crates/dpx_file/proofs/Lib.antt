@@ -1,0 +1,11 @@
+pub mod Bytes
+pub mod RowLemmas
+pub mod Lists
+pub mod Decoding
+pub mod Encoding
+pub mod Sizes
+pub mod LineLemmas
+pub mod CodeLemmas
+pub mod PixelLemmas
+pub mod Written
+pub mod Back

@@ -1,0 +1,10 @@
+use Rattle.std.proofs.Common.{◌≡◌, ◌++◌}
+use Rattle.byteorder.specs.Endian.{big_bytes}
+use Rattle.dpx_file.proofs.header.put_field.Given as goal
+
+-- what is left to be written completes the number
+abbrev pub invariant-loop-left : goal.invariant-loop-left
+invariant-loop-left l = l.out.items ++ big_bytes l.left l.field.number ≡ l.initial.out.items ++ big_bytes l.field.size l.field.number
+
+abbrev pub decreases-loop-left : goal.decreases-loop-left
+decreases-loop-left l = l.left

@@ -1,0 +1,42 @@
+-- What a call answers, by cases.
+use Rattle.std.specs.Prelude.{◌≡◌, Result, Ok, Err}
+use Rattle.dpx_file.specs.declared.fault.DpxFault.{DpxFault}
+use Rattle.dpx_file.specs.declared.fault.ReadFault.{ReadFault}
+use Rattle.dpx_file.specs.declared.fault.ReadFault.TheVariants.{Dpx, Memory}
+use Rattle.dpx_file.specs.declared.layout.Layout.{Layout}
+use Rattle.dpx_file.specs.declared.layout.Header.{Header}
+use Rattle.dpx_file.specs.Reading.{Header as PlainHeader, Layout as PlainLayout}
+
+-- An answer that is exactly what reading gives: its value, seen by view, or its fault.
+abbrev pub Reads : {X Y : Type 0} → (X → Y) → Result X DpxFault → Result Y DpxFault → Type 0
+Reads view (Ok x) reading = reading ≡ Ok (view x)
+Reads view (Err fault) reading = reading ≡ Err fault
+
+-- An answer that is what reading gives, unless memory ran out.
+abbrev pub Gives : {Y : Type 0} → Result Y ReadFault → Result Y DpxFault → Type 0
+Gives (Ok y) reading = reading ≡ Ok y
+Gives (Err (Dpx fault)) reading = reading ≡ Err fault
+Gives (Err Memory) reading = Unit {0}
+
+-- The layout that the code keeps, as plain data.
+abbrev pub plain_layout : Layout → PlainLayout
+plain_layout l =
+    record { width = l.width; height = l.height; depth = l.depth; packing = l.packing; offset = l.offset; padding = l.padding }
+
+-- The fields that the code keeps, as plain data.
+abbrev pub plain_header : Header → PlainHeader
+plain_header h = record {
+  encryption_key = h.encryption_key;
+  image_orientation = h.image_orientation;
+  number_of_image_elements = h.number_of_image_elements;
+  pixels_per_line = h.pixels_per_line;
+  lines_per_image_element = h.lines_per_image_element;
+  data_sign = h.data_sign;
+  descriptor = h.descriptor;
+  bit_size = h.bit_size;
+  packing = h.packing;
+  encoding = h.encoding;
+  offset_to_data = h.offset_to_data;
+  offset_to_image_data = h.offset_to_image_data;
+  end_of_line_padding = h.end_of_line_padding;
+}

@@ -1,0 +1,28 @@
+-- How the files in memory are kept.
+use Rattle.std.specs.Prelude.{◌≡◌, ℕ, ◌≤◌, ◌<◌, Option, Some, None, vec_len, vec_capacity}
+use Rattle.std.specs.Option.{option_map}
+use Rattle.std.specs.FinMap as map
+use Rattle.outside.specs.MemBox.{BoxState}
+use Rattle.outside.specs.declared.mem_box.Room.{Room}
+use Rattle.outside.specs.declared.mem_box.MemBox.TheInside.{Inside}
+
+-- The entries stand newest first, so the first of a name counts.
+abbrev pub view_of : Inside → BoxState
+view_of b = record {
+  held = map.from_entries b.files.items;
+  faults = b.faults;
+  lost = b.lost;
+  calls = b.calls;
+  failing = b.failing.items;
+  torn = b.torn;
+  room = option_map (λ r. (r.name, r.most)) b.room;
+}
+
+-- The memory that is kept for a store suffices: for its bytes, and for one more entry.
+abbrev pub RoomSuffices : ℕ → ℕ → Option Room → Type 0
+RoomSuffices len capacity None = Unit {0}
+RoomSuffices len capacity (Some r) = (len < capacity) × (vec_len r.bytes ≡ 0) × (r.most ≤ vec_capacity r.bytes)
+
+-- Between calls that memory is there.
+abbrev pub IsRoomy : Inside → Type 0
+IsRoomy b = RoomSuffices (vec_len b.files) (vec_capacity b.files) b.room

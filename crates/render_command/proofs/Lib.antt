@@ -1,0 +1,11 @@
+pub mod FirstLexemes
+pub mod FirstFronts
+pub mod FirstPoints
+pub mod FirstCovers
+pub mod FirstSpellings
+pub mod FirstRefusals
+pub mod Spoken
+pub mod Judged
+pub mod Codes
+pub mod Pixels
+pub mod Ended

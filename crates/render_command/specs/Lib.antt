@@ -1,0 +1,11 @@
+pub mod Command
+pub mod FirstTokens
+pub mod FirstText
+pub mod FirstRun
+pub mod FirstReading
+pub mod Rendered
+pub mod Verdict
+pub mod Ends
+pub mod Lines
+pub mod Said
+pub mod Answers

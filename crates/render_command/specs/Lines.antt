@@ -1,0 +1,54 @@
+-- The number of each status, and the line that is said for it.
+use Rattle.std.specs.Prelude.{ℕ, List, [], ◌∷◌, ◌++◌, codes}
+use Rattle.dpx_file.specs.declared.fault.DpxFault.{DpxFault}
+use Rattle.dpx_file.specs.declared.fault.DpxFault.TheVariants.{NotDpx, Truncated, Encrypted, Orientation, Elements, Size, Sign, Descriptor, Depth, Packing, Compressed}
+use Rattle.render_command.specs.declared.status.ImageFault.{ImageFault}
+use Rattle.render_command.specs.declared.status.ImageFault.TheVariants.{Absent, TooLong, Dpx}
+use Rattle.render_command.specs.declared.status.Status.{Status}
+use Rattle.render_command.specs.declared.status.Status.TheVariants.{Done, Exists, NotFound, Image, ReadFault, WriteFault, Memory, Later}
+
+-- the number that the program ends with
+abbrev pub code_of : Status → ℕ
+code_of Done = 0
+code_of Exists = 3
+code_of (NotFound name) = 4
+code_of (Image fault) = 8
+code_of (ReadFault name) = 10
+code_of WriteFault = 11
+code_of Memory = 12
+code_of Later = 13
+
+-- the name of a fault of the format
+abbrev pub dpx_kind : DpxFault → List ℕ
+dpx_kind NotDpx = codes "NotDpx"
+dpx_kind (Truncated need have) = codes "Truncated"
+dpx_kind Encrypted = codes "Encrypted"
+dpx_kind (Orientation n) = codes "Orientation"
+dpx_kind (Elements n) = codes "Elements"
+dpx_kind (Size width height) = codes "Size"
+dpx_kind (Sign n) = codes "Sign"
+dpx_kind (Descriptor n) = codes "Descriptor"
+dpx_kind (Depth n) = codes "Depth"
+dpx_kind (Packing n) = codes "Packing"
+dpx_kind (Compressed n) = codes "Compressed"
+
+-- the name of a fault of the source, without its numbers
+abbrev pub image_kind : ImageFault → List ℕ
+image_kind Absent = codes "Absent"
+image_kind TooLong = codes "TooLong"
+image_kind (Dpx fault) = dpx_kind fault
+
+-- a line of the command
+abbrev pub line : List ℕ → List ℕ
+line text = codes "ctlrender: " ++ (text ++ 10 ∷ [])
+
+-- what is said for a status, where the image is to be written under the name `destination`
+abbrev pub line_of : List ℕ → Status → List ℕ
+line_of destination Done = []
+line_of destination Exists = line (destination ++ codes " exists")
+line_of destination (NotFound name) = line (name ++ codes " not found")
+line_of destination (Image fault) = line (codes "image: " ++ image_kind fault)
+line_of destination (ReadFault name) = line (codes "read fault on " ++ name)
+line_of destination WriteFault = line (codes "write fault")
+line_of destination Memory = line (codes "out of memory")
+line_of destination Later = line (codes "not built yet")

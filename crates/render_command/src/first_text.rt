@@ -1,0 +1,12 @@
+//! First texts: transformations of a pixel that are sums of products, channel by channel.
+
+mod read;
+mod refusal;
+mod run;
+#[cfg(test)]
+mod tests;
+mod tokens;
+mod tree;
+
+pub use read::{one_tree, read_first_text};
+pub use tree::{Assignment, Channel, Colour, Factor, FirstText, Operator, Product, Sum};

@@ -1,0 +1,1 @@
+void main(input varying float rIn, input varying float gIn, input varying float bIn, output varying float rOut, output varying float gOut, output varying float bOut) { rOut = rIn * 0.5; gOut = gIn * 0.5; bOut = bIn * 0.5; }
