@@ -10,7 +10,7 @@ use Rattle.dpx_file.specs.Plain.{IsDepth, CodesFit}
 use Rattle.dpx_file.specs.Reading.{Order, Layout, lowest_bit, pixel_size, pixel_codes, line_codes, line_start, codes_of}
 use Rattle.dpx_file.proofs.Lists.{length_flat_range, All-flat_map}
 
-length_pixel : (order : Order) (depth packing : ℕ) (bytes : List ℕ) → length (pixel_codes order depth packing bytes) ≡ 3
+pub length_pixel : (order : Order) (depth packing : ℕ) (bytes : List ℕ) → length (pixel_codes order depth packing bytes) ≡ 3
 unfolding pixel_codes
 length_pixel order depth packing bytes = refl
 

@@ -9,3 +9,4 @@ pub mod CodeLemmas
 pub mod PixelLemmas
 pub mod Written
 pub mod Back
+pub mod Stand

@@ -19,6 +19,6 @@ pub use canvas::Canvas;
 pub use codes::CodeList;
 pub use fault::{DpxFault, ReadFault};
 pub use image::Image;
-pub use law::reads_back;
+pub use law::{codes_stand, fields_in_place, reads_back};
 pub use reading::read;
 pub use writing::write;

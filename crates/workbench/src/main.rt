@@ -1,11 +1,11 @@
 //! `workbench WORK FILE TIMES`: does one named piece of work over a file a number of times, and says a checksum.
 //! It is for timing from outside.
 //!
-//! The works: `dpx` reads the file as an image and writes it again.
+//! The works: `copy` copies the file's bytes, `dpx` reads the file as an image and writes it again.
 #![tactic(auto)]
 
-use anyhow::{Result, anyhow, bail};
-use ctl_base::TextArg;
+use anyhow::{Result, bail};
+use ctl_base::{ByteText, TextArg};
 use outside::{DiskBox, Fetched, FileBox};
 use std::alloc::Global;
 use std::env;
@@ -25,6 +25,7 @@ fn main(rt: HostRuntime) -> Result<()> {
         bail!("the file cannot be read");
     };
     let sum = match work.as_str() {
+        "copy" => copy(rt.alloc(), bytes.as_slice(), times)?,
         "dpx" => dpx(rt.alloc(), bytes.as_slice(), times)?,
         _ => bail!("no such work"),
     };
@@ -41,6 +42,18 @@ fn words<R: Env + AllocGlobal>(rt: &R) -> Result<Vec<TextArg>> {
         }
     }
     Ok(words)
+}
+
+// Copies the bytes, so many times.
+fn copy(alloc: Global, file: &[u8], times: u32) -> Result<u64> {
+    let mut sum = 0u64;
+    for _ in 0..times {
+        match ByteText::new(alloc, file) {
+            Ok(copied) => sum = sum.wrapping_add(checksum(copied.as_slice())),
+            Err(_) => bail!("out of memory"),
+        }
+    }
+    Ok(sum)
 }
 
 // Reads the file as an image and writes it, so many times.

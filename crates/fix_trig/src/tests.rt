@@ -1,0 +1,5 @@
+//! Worked values, and a table of cases.
+
+mod cases;
+mod tables;
+mod worked;
