@@ -1,0 +1,8 @@
+mod Lexemes
+mod Spaces
+mod Cover
+mod Exits
+mod Faults
+mod Points
+mod Values
+mod OneList

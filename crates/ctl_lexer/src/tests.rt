@@ -1,0 +1,4 @@
+//! Texts with their tokens and with their faults.
+
+mod cases;
+mod tables;

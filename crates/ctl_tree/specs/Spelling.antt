@@ -1,0 +1,67 @@
+-- How each keyword and each sign is written.
+use Rattle.std.specs.Prelude.{ℕ, List, codes}
+use Rattle.ctl_tree.specs.declared.keyword.Keyword.{Keyword}
+use Rattle.ctl_tree.specs.declared.keyword.Keyword.TheVariants.{Bool, Const, Ctlversion, Else, False, Float, For, Half, If, Import, Input, Int, Namespace, Output, Print, Return, String, Struct, True, Uniform, Unsigned, Varying, Void, While}
+use Rattle.ctl_tree.specs.declared.sign.Sign.{Sign}
+use Rattle.ctl_tree.specs.declared.sign.Sign.TheVariants.{Plus, Minus, Star, Slash, Percent, Ampersand, Bar, Caret, Tilde, ShiftLeft, ShiftRight, AndAnd, OrOr, Exclamation, EqualTo, NotEqualTo, LessThan, AtMost, GreaterThan, AtLeast, Assign, OpenRound, CloseRound, OpenSquare, CloseSquare, OpenCurly, CloseCurly, Comma, Semicolon, Dot, ColonColon}
+
+-- how a keyword is written
+abbrev pub keyword_bytes : Keyword → List ℕ
+keyword_bytes Bool = codes "bool"
+keyword_bytes Const = codes "const"
+keyword_bytes Ctlversion = codes "ctlversion"
+keyword_bytes Else = codes "else"
+keyword_bytes False = codes "false"
+keyword_bytes Float = codes "float"
+keyword_bytes For = codes "for"
+keyword_bytes Half = codes "half"
+keyword_bytes If = codes "if"
+keyword_bytes Import = codes "import"
+keyword_bytes Input = codes "input"
+keyword_bytes Int = codes "int"
+keyword_bytes Namespace = codes "namespace"
+keyword_bytes Output = codes "output"
+keyword_bytes Print = codes "print"
+keyword_bytes Return = codes "return"
+keyword_bytes String = codes "string"
+keyword_bytes Struct = codes "struct"
+keyword_bytes True = codes "true"
+keyword_bytes Uniform = codes "uniform"
+keyword_bytes Unsigned = codes "unsigned"
+keyword_bytes Varying = codes "varying"
+keyword_bytes Void = codes "void"
+keyword_bytes While = codes "while"
+
+-- how a sign is written
+abbrev pub sign_bytes : Sign → List ℕ
+sign_bytes Plus = codes "+"
+sign_bytes Minus = codes "-"
+sign_bytes Star = codes "*"
+sign_bytes Slash = codes "/"
+sign_bytes Percent = codes "%"
+sign_bytes Ampersand = codes "&"
+sign_bytes Bar = codes "|"
+sign_bytes Caret = codes "^"
+sign_bytes Tilde = codes "~"
+sign_bytes ShiftLeft = codes "<<"
+sign_bytes ShiftRight = codes ">>"
+sign_bytes AndAnd = codes "&&"
+sign_bytes OrOr = codes "||"
+sign_bytes Exclamation = codes "!"
+sign_bytes EqualTo = codes "=="
+sign_bytes NotEqualTo = codes "!="
+sign_bytes LessThan = codes "<"
+sign_bytes AtMost = codes "<="
+sign_bytes GreaterThan = codes ">"
+sign_bytes AtLeast = codes ">="
+sign_bytes Assign = codes "="
+sign_bytes OpenRound = codes "("
+sign_bytes CloseRound = codes ")"
+sign_bytes OpenSquare = codes "["
+sign_bytes CloseSquare = codes "]"
+sign_bytes OpenCurly = codes "{"
+sign_bytes CloseCurly = codes "}"
+sign_bytes Comma = codes ","
+sign_bytes Semicolon = codes ";"
+sign_bytes Dot = codes "."
+sign_bytes ColonColon = codes "::"

@@ -1,0 +1,84 @@
+//! The tokens of a text, as contracts see them: a list.
+
+ghost use Rattle.std.specs.Prelude.{◌≡◌, List, [], ◌∷◌, ◌++◌, IfOk, IfErr};
+
+use crate::Token;
+use ctl_base::Memory;
+use std::alloc::Global;
+use std::marker::Model;
+
+/// Tokens in their order.
+#[derive(Debug, Drop)]
+pub struct TokenList {
+    tokens: Vec<Token>,
+}
+
+impl Model for TokenList {
+    ghost use Rattle.std.specs.Prelude.{List};
+    ghost use Rattle.ctl_tree.specs.declared.token.Token.{Token};
+
+    ghost Value = { List Token };
+
+    ghost view = { λ t. t.tokens.items };
+}
+
+impl TokenList {
+    pub fn new(alloc: Global) -> TokenList
+        ensures { result ≡ [] }
+    {
+        TokenList {
+            tokens: Vec::new(alloc),
+        }
+    }
+
+    /// Puts a token last. A list that has no room for it stays as it was.
+    pub fn push(&mut self, token: Token) -> Result<(), Memory>
+        ensures last { IfOk result (λ _. self.new ≡ self.old ++ (token ∷ [])) }
+        ensures kept { IfErr result (λ _. self.new ≡ self.old) }
+    {
+        let Token {
+            kind,
+            at,
+            len,
+            line,
+        } = token;
+        self.tokens.push(Token {
+            kind,
+            at,
+            len,
+            line,
+        })?;
+        Ok(())
+    }
+
+    pub fn as_slice(&self) -> &[Token]
+        ensures { result.now ≡ self.now }
+    {
+        self.tokens.as_slice()
+    }
+}
+
+#[cfg(test)]
+mod tests {
+    use super::*;
+    use crate::{Sign, TokenKind};
+
+    #[test]
+    fn tokens_stand_in_the_order_in_which_they_came(rt: HostRuntime) -> Result<(), Memory> {
+        let mut tokens = TokenList::new(rt.alloc());
+        for at in 0..3u32 {
+            let token = Token {
+                kind: TokenKind::Sign(Sign::Semicolon),
+                at,
+                len: 1,
+                line: 1,
+            };
+            tokens.push(token)?;
+        }
+        assert_eq!(rt; tokens.as_slice().len(), 3);
+        for (token, at) in tokens.as_slice().iter().zip(0..3u32) {
+            assert_eq!(rt; token.at, at);
+        }
+        Ok(())
+    }
+}

@@ -1,0 +1,5 @@
+//! Worked values and tables of cases at the edges.
+
+mod cases;
+mod tables;
+mod worked;
