@@ -1,4 +1,4 @@
-//! Sine, cosine, tangent and their inverses, exact to the last bit.
+//! Sine, cosine, tangent and their inverses. Each value is fixed to the last bit by its definition.
 #![tactic(auto)]
 
 pub use arc::{acos, asin, atan, atan2, ends_at_its_angle};
