@@ -22,24 +22,14 @@ pub const HALF_PIXEL: u32 = 0x8000_0400;
 
 /// A file of ten bits by method A, from the table of the fields of SMPTE 268M: big numbers, no padding.
 pub fn dpx(alloc: Global, width: u32, height: u32, pixels: &[u32]) -> Result<Vec<u8>, Memory> {
+    let pixel_bytes = width.wrapping_mul(height).wrapping_mul(4);
+    let length = pixel_bytes.wrapping_add(2048);
     let mut file = Vec::new(alloc);
     // file information
     file.extend_from_slice(b"SDPX")?;
     numbers(&mut file, &[2048])?;
     file.extend_from_slice(b"V1.0\0\0\0\0")?;
-    numbers(
-        &mut file,
-        &[
-            width
-                .wrapping_mul(height)
-                .wrapping_mul(4)
-                .wrapping_add(2048),
-            1,
-            1664,
-            384,
-            0,
-        ],
-    )?;
+    numbers(&mut file, &[length, 1, 1664, 384, 0])?;
     fill(&mut file, 0, 624)?;
     fill(&mut file, 255, 4)?;
     fill(&mut file, 0, 104)?;
