@@ -1,7 +1,8 @@
 //! `workbench WORK FILE TIMES`: does one named piece of work over a file a number of times, and says a checksum.
 //! It is for timing from outside.
 //!
-//! The works: `copy` copies the file's bytes, `dpx` reads the file as an image and writes it again.
+//! The works: `copy` copies the file's bytes, `dpx` reads the file as an image and writes it again, and `lex` cuts it
+//! into tokens. `pow`, `log2` and `exp2` make a thousand calls of that function each time, and use no file.
 #![tactic(auto)]
 
 use anyhow::{Result, bail};
@@ -10,6 +11,9 @@ use outside::{DiskBox, Fetched, FileBox};
 use std::alloc::Global;
 use std::env;
 use std::rt::{Env, Files};
+
+mod powers;
+mod texts;
 
 /// The most bytes of a file.
 const MOST_BYTES: u64 = 1 << 30;
@@ -24,13 +28,22 @@ fn main(rt: HostRuntime) -> Result<()> {
     let Ok(Fetched::Bytes(bytes)) = files.fetch(rt.alloc(), file.as_str(), MOST_BYTES) else {
         bail!("the file cannot be read");
     };
-    let sum = match work.as_str() {
-        "copy" => copy(rt.alloc(), bytes.as_slice(), times)?,
-        "dpx" => dpx(rt.alloc(), bytes.as_slice(), times)?,
-        _ => bail!("no such work"),
-    };
+    let sum = sum_of(rt.alloc(), work.as_str(), bytes.as_slice(), times)?;
     println!(&rt; "{sum:016x}")?;
     Ok(())
+}
+
+// The checksum of the named work.
+fn sum_of(alloc: Global, work: &str, file: &[u8], times: u32) -> Result<u64> {
+    match work {
+        "copy" => copy(alloc, file, times),
+        "dpx" => dpx(alloc, file, times),
+        "lex" => texts::tokens(alloc, file, times),
+        "pow" => Ok(powers::powers(times)),
+        "log2" => Ok(powers::logarithms(times)),
+        "exp2" => Ok(powers::powers_of_two(times)),
+        _ => bail!("no such work"),
+    }
 }
 
 fn words<R: Env + AllocGlobal>(rt: &R) -> Result<Vec<TextArg>> {

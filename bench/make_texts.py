@@ -1,0 +1,30 @@
+#!/usr/bin/env python3
+"""Writes texts of 1, 4 and 16 MiB of each sort into a folder, for timing: bench/make_texts.py FOLDER
+
+names: names with a blank or a line feed behind each. comments: comments of both forms. text: one text in quotes.
+number: one number with zeros in front. digits: one run of digits, which is no number.
+"""
+import pathlib, random, string, sys
+
+def names(size):
+    words = [''.join(random.choices(string.ascii_lowercase, k=random.randint(2, 12))) + ' ' for _ in range(4000)]
+    words[::9] = [word[:-1] + '\n' for word in words[::9]]
+    return ''.join(random.choices(words, k=size // 7))[:size]
+
+def comments(size):
+    one = '// up to the end of the line\n/* up to a mark, * or / alone is none */\n'
+    return (one * (size // len(one))).ljust(size)
+
+def text(size):
+    return '"' + 'a' * (size - 2) + '"'
+
+def number(size):
+    return '1.0'.rjust(size, '0')
+
+def digits(size):
+    return '7' * size
+
+random.seed(1)
+for sort in (names, comments, text, number, digits):
+    for mib in (1, 4, 16):
+        (pathlib.Path(sys.argv[1]) / f'{sort.__name__}_{mib}.txt').write_text(sort(mib << 20))
