@@ -78,7 +78,7 @@ at_start F text = nothing (omega arith) refl
 
 -- where nothing begins, no other list goes on
 
-nothing_blocked : (F : ℕ) (text : List ℕ) (p : ℕ) → NothingBegins F (drop p text) → Blocked text p
+pub nothing_blocked : (F : ℕ) (text : List ℕ) (p : ℕ) → NothingBegins F (drop p text) → Blocked text p
 nothing_blocked F text p n = blocked text p
     (λ b. false≢true (sym n.no_blank ∙ ap is_blank (front text p) ∙ b))
     n.no_comment

@@ -5,4 +5,5 @@ mod Exits
 mod Faults
 mod Points
 mod Values
-mod OneList
+pub mod OneList
+pub mod OneFault

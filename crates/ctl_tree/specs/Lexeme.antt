@@ -1,6 +1,6 @@
 -- How the bytes of a token are written. F is the number of fraction bits.
 -- Past the end of a list of bytes `slice_index` gives 0, which no test here passes.
-use Rattle.std.specs.Prelude.{◌≡◌, ℕ, zero, suc, ℤ, ◌+◌, ◌-◌, ◌*◌, ◌^◌, ◌<◌, ◌≤◌, ◌&&◌, ◌||◌, ◌⊎◌, ◌==◌, not, Bool, true, false, List, [], ◌∷◌, ◌++◌, length, take, slice_index, nat_le, fold, All, IsSome, if◌then◌else◌}
+use Rattle.std.specs.Prelude.{◌≡◌, ℕ, zero, suc, ℤ, ◌+◌, ◌-◌, ◌*◌, ◌^◌, ◌<◌, ◌≤◌, ◌&&◌, ◌||◌, ◌⊎◌, ◌==◌, not, Bool, true, false, List, ◌∷◌, length, take, slice_index, nat_le, fold, All, IsSome, if◌then◌else◌}
 use Rattle.fix_num.specs.Decimal.{Decimal, Spells, IsDigit, number, significant, digits_of, most_digits, decimal_raw}
 use Rattle.fix_num.specs.Half.{half}
 use Rattle.ctl_tree.specs.declared.keyword.Keyword.{Keyword}

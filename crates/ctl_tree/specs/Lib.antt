@@ -1,3 +1,14 @@
 pub mod Spelling
 pub mod Lexeme
 pub mod Tokens
+pub mod Lexemes
+pub mod Texts
+pub mod Names
+pub mod Expressions
+pub mod Declarations
+pub mod Statements
+pub mod Modules
+pub mod Beginnings
+pub mod Laws
+pub mod OwnTokens
+pub mod Units

@@ -1,6 +1,9 @@
 //! A token and its place.
 
-use crate::{Keyword, Sign};
+ghost use Rattle.std.specs.Prelude.{◌≡◌, Some};
+ghost use Rattle.ctl_tree.specs.Names.{literal_of};
+
+use crate::{Keyword, LiteralValue, Sign};
 use fix_num::Fix;
 
 /// What a token is. A name and a text are known by the bytes of their span.
@@ -27,4 +30,20 @@ pub struct Token {
     pub at: u32,
     pub len: u32,
     pub line: u32,
+}
+
+impl TokenKind {
+    /// The value of a literal, where the token is one.
+    pub fn literal(&self) -> Option<LiteralValue>
+        ensures { result ≡ literal_of (Some self.now) }
+    {
+        match self {
+            TokenKind::Whole(n) => Some(LiteralValue::Whole(*n)),
+            TokenKind::Point(value) => Some(LiteralValue::Point(*value)),
+            TokenKind::HalfPoint(value) => Some(LiteralValue::HalfPoint(*value)),
+            TokenKind::Word(Keyword::True) => Some(LiteralValue::Truth(true)),
+            TokenKind::Word(Keyword::False) => Some(LiteralValue::Truth(false)),
+            _ => None,
+        }
+    }
 }

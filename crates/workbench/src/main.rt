@@ -1,8 +1,9 @@
 //! `workbench WORK FILE TIMES`: does one named piece of work over a file a number of times, and says a checksum.
 //! It is for timing from outside.
 //!
-//! The works: `copy` copies the file's bytes, `dpx` reads the file as an image and writes it again, and `lex` cuts it
-//! into tokens. `pow`, `log2` and `exp2` make a thousand calls of that function each time, and use no file.
+//! The works: `copy` copies the file's bytes, `dpx` reads the file as an image and writes it again, `lex` cuts it into
+//! tokens, `parse` reads it as a module, and `count` counts its tokens. `pow`, `log2` and `exp2` make a thousand calls of
+//! that function each time, and use no file.
 #![tactic(auto)]
 
 use anyhow::{Result, bail};
@@ -39,6 +40,8 @@ fn sum_of(alloc: Global, work: &str, file: &[u8], times: u32) -> Result<u64> {
         "copy" => copy(alloc, file, times),
         "dpx" => dpx(alloc, file, times),
         "lex" => texts::tokens(alloc, file, times),
+        "parse" => texts::modules(alloc, file, times),
+        "count" => texts::count(alloc, file, times),
         "pow" => Ok(powers::powers(times)),
         "log2" => Ok(powers::logarithms(times)),
         "exp2" => Ok(powers::powers_of_two(times)),

@@ -1,7 +1,8 @@
-//! The tokens of a text.
+//! The tokens of a text, and its module.
 
 use anyhow::{Result, bail};
 use ctl_lexer::{LexFault, lex};
+use ctl_parser::{SyntaxFault, parse};
 use ctl_tree::{Token, TokenKind};
 use std::alloc::Global;
 
@@ -23,6 +24,37 @@ pub(crate) fn tokens(alloc: Global, text: &[u8], times: u32) -> Result<u64> {
         }
     }
     Ok(sum)
+}
+
+/// Cuts the text into tokens and reads these as a module, so many times. Each time adds the number of its definitions,
+/// or the place of the token at which it is refused, counted from 1.
+pub(crate) fn modules(alloc: Global, text: &[u8], times: u32) -> Result<u64> {
+    if MOST_BYTES < text.len() {
+        bail!("the text is too long");
+    }
+    let mut sum = 0u64;
+    for _ in 0..times {
+        let Ok(tokens) = lex(alloc, text) else {
+            bail!("no tokens, or out of memory");
+        };
+        match parse(alloc, text, tokens.as_slice()) {
+            Ok(module) => sum = sum.wrapping_add(module.definitions.len() as u64),
+            Err(SyntaxFault::At { at, .. }) => sum = sum.wrapping_add(1 + u64::from(at)),
+            Err(SyntaxFault::Memory) => bail!("out of memory"),
+        }
+    }
+    Ok(sum)
+}
+
+/// The number of tokens of the text, times the number of times.
+pub(crate) fn count(alloc: Global, text: &[u8], times: u32) -> Result<u64> {
+    if MOST_BYTES < text.len() {
+        bail!("the text is too long");
+    }
+    match lex(alloc, text) {
+        Ok(tokens) => Ok((tokens.as_slice().len() as u64).wrapping_mul(u64::from(times))),
+        Err(_) => bail!("no tokens, or out of memory"),
+    }
 }
 
 fn checksum(tokens: &[Token]) -> u64 {

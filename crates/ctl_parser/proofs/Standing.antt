@@ -1,0 +1,63 @@
+-- Tokens that stand for a text: how many they are, and where their spans lie.
+use Rattle.std.proofs.Common.{◌≡◌, ℕ, zero, suc, ◌+◌, ◌<◌, ◌≤◌, Bool, true, false, List, [], ◌∷◌, length, take, drop, All, arith, ap, ◌∙◌, refl, inl, inr, length-take-le}
+use Rattle.std.proofs.lemmas.Bool.{false≢true}
+use Rattle.std.proofs.lemmas.List.{length-drop}
+use Rattle.ctl_tree.specs.declared.sign.Sign.{Sign}
+use Rattle.ctl_tree.specs.declared.sign.Sign.TheVariants.{Plus}
+use Rattle.ctl_tree.specs.declared.token.Token.{Token}
+use Rattle.ctl_tree.specs.declared.token.TokenKind.{TokenKind}
+use Rattle.ctl_tree.specs.Spelling.{sign_bytes}
+use Rattle.ctl_tree.specs.Lexeme.{IsLexeme}
+use Rattle.ctl_tree.specs.Tokens.{IsGap, nothing, blank, comment, IsToken, CoversFrom, StandsFor}
+use Rattle.ctl_parser.specs.Lookup.{IsInside}
+
+-- a gap does not end before it begins
+pub gap_up : {text : List ℕ} {p q : ℕ} → IsGap text p q → p ≤ q
+gap_up (nothing le e) = omega arith
+gap_up (blank lt is g) = omega (arith, gap_up g)
+gap_up (comment n c g) = omega (arith, gap_up g)
+
+-- a lexeme is not empty
+abbrev holds_some : List ℕ → Bool
+holds_some [] = false
+holds_some (b ∷ bytes) = true
+
+sign_holds : (sign : Sign) → holds_some (sign_bytes sign) ≡ true
+sign_holds Plus = refl
+sign_holds _ = refl
+
+holding : (bytes : List ℕ) → holds_some bytes ≡ true → 0 < length bytes
+holding [] e = absurd (false≢true e)
+holding (b ∷ bytes) e = omega arith
+
+lexeme_some : (bytes : List ℕ) → IsLexeme bytes → 0 < length bytes
+lexeme_some bytes (inl name) = name.some
+lexeme_some bytes (inr (inl number)) = number.some
+lexeme_some bytes (inr (inr (inl (sign, is)))) = holding bytes (ap holds_some is ∙ sign_holds sign)
+lexeme_some bytes (inr (inr (inr text))) = omega (arith, text.some)
+
+token_some : {F : ℕ} {kind : TokenKind} (bytes : List ℕ) (n : ℕ) → IsToken F kind bytes n → 0 < n
+token_some bytes n t = omega (arith, length-take-le n bytes t.whole.within, lexeme_some (take n bytes) t.whole.lexeme)
+
+token_within : {F : ℕ} {kind : TokenKind} (text : List ℕ) (at n : ℕ) → IsToken F kind (drop at text) n → at + n ≤ length text
+token_within text at n t = omega (arith, length-drop at text, token_some (drop at text) n t, t.whole.within)
+
+-- there are no more tokens than bytes
+pub covers_few : (F : ℕ) (text : List ℕ) (from to : ℕ) (ts : List Token) → CoversFrom F text from ts to → from + length ts ≤ to
+covers_few F text from to [] c = omega (arith, gap_up c)
+covers_few F text from to (t ∷ ts) c =
+    omega (arith, gap_up c.0, token_some (drop t.at text) t.len c.1.spelled, covers_few F text (t.at + t.len) to ts c.2)
+
+pub stand_few : (F : ℕ) (text : List ℕ) (ts : List Token) → StandsFor F ts text → length ts ≤ length text
+stand_few F text ts h = omega (arith, covers_few F text 0 (length text) ts h)
+
+-- each span lies in the text
+pub covers_inside : (F : ℕ) (text : List ℕ) (from to : ℕ) (ts : List Token) → CoversFrom F text from ts to → All (IsInside text) ts
+covers_inside F text from to [] c k d lt = absurd (omega arith)
+covers_inside F text from to (t ∷ ts) c zero d lt = token_within text t.at t.len c.1.spelled
+covers_inside F text from to (t ∷ ts) c (suc k) d lt = covers_inside F text (t.at + t.len) to ts c.2 k d (omega arith)
+
+pub stand_inside : (F : ℕ) (text : List ℕ) (ts : List Token) → StandsFor F ts text → All (IsInside text) ts
+stand_inside F text ts h = covers_inside F text 0 (length text) ts h
+
+pub ruleset standing = (stand_few, stand_inside)

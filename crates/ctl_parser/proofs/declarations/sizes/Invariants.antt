@@ -1,0 +1,20 @@
+use Rattle.std.proofs.Common.{◌-◌, ◌≤◌, [], ◌∷◌, ◌++◌, length, Some, ℕ, List}
+use Rattle.ctl_base.specs.declared.limits.TheConstants.{NESTING}
+use Rattle.ctl_tree.specs.declared.definition.SizeExpr.{SizeExpr}
+use Rattle.ctl_tree.specs.Declarations.{AreSizes}
+use Rattle.ctl_parser.specs.Machine.{Passes}
+use Rattle.ctl_parser.specs.Machine.Symbol.{Sizes}
+use Rattle.ctl_parser.proofs.declarations.sizes.Given as goal
+
+-- whatever sizes follow, those so far stand before them
+abbrev pub invariant-each : goal.invariant-each
+invariant-each l = record {
+  spelled : (more : List SizeExpr) (after : ℕ) → AreSizes l.lexemes (Some NESTING) l.nesting l.next more after
+      → AreSizes l.lexemes (Some NESTING) l.nesting l.at (l.sizes ++ more) after;
+  passed : Passes l.lexemes (Some NESTING) (Sizes l.nesting ∷ []) l.at (Sizes l.nesting ∷ []) l.next;
+  from : l.at ≤ l.next;
+  within : l.next ≤ length l.lexemes;
+}
+
+abbrev pub decreases-each : goal.decreases-each
+decreases-each l = length l.lexemes - l.next

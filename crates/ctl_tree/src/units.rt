@@ -1,0 +1,189 @@
+//! Modules with what they were read from, in load order.
+
+ghost use Rattle.std.specs.Prelude.{◌≡◌, ◌<◌, ◌≤◌, ◌^◌, List, [], ◌∷◌, ◌++◌, length, slice_get, IfOk, IfErr};
+ghost use Rattle.std.specs.Option.{option_copied};
+ghost use Rattle.ctl_tree.specs.OwnTokens.{OwnTokensBelow};
+ghost use Rattle.ctl_tree.specs.Units.{NodeExists, line_of};
+
+use crate::{Module, Token, TokenList};
+use ctl_base::{Memory, Node, TextArg};
+use std::alloc::Global;
+use std::marker::Model;
+
+/// A module with the name of its file and the tokens that spell it. It has at most 2^24 tokens,
+/// and the own token of each form of the module is one of them.
+#[derive(Drop)]
+pub struct Unit {
+    file: TextArg,
+    tokens: TokenList,
+    module: Module,
+}
+
+impl Model for Unit {
+    ghost use Rattle.std.specs.Prelude.{◌≤◌, ◌^◌, length};
+    ghost use Rattle.ctl_tree.specs.OwnTokens.{OwnTokensBelow};
+    ghost use Rattle.ctl_tree.specs.Units.{SourceUnit, unit_code};
+
+    ghost Value = { SourceUnit };
+
+    ghost coded = { unit_code };
+
+    ghost view = { λ u. record { file = u.file; tokens = u.tokens; «module» = u.«module» } };
+
+    ghost invariant = { λ u. (length u.tokens ≤ 2 ^ 24) × OwnTokensBelow (length u.tokens) u.«module» };
+}
+
+impl Unit {
+    pub fn new(file: TextArg, tokens: TokenList, module: Module) -> Unit
+        requires few { length tokens ≤ 2 ^ 24 }
+        requires own { OwnTokensBelow (length tokens) «module» }
+        ensures { result ≡ record { file = file; tokens = tokens; «module» = «module» } }
+    {
+        Unit {
+            file,
+            tokens,
+            module,
+        }
+    }
+
+    pub fn file(&self) -> &TextArg
+        ensures { result.now ≡ self.now.file }
+    {
+        &self.file
+    }
+
+    pub fn tokens(&self) -> &[Token]
+        ensures tokens { result.now ≡ self.now.tokens }
+        ensures few { length self.now.tokens ≤ 2 ^ 24 }
+    {
+        self.tokens.as_slice()
+    }
+
+    pub fn module(&self) -> &Module
+        ensures form { result.now ≡ self.now.«module» }
+        ensures own { OwnTokensBelow (length self.now.tokens) self.now.«module» }
+    {
+        &self.module
+    }
+}
+
+/// Units in load order, the root last. There are at most 64, the most modules of a stage.
+#[derive(Drop)]
+pub struct Units {
+    units: Vec<Unit>,
+}
+
+impl Model for Units {
+    ghost use Rattle.std.specs.Prelude.{List, ◌≤◌, length};
+    ghost use Rattle.std.specs.Coded.{coded_list};
+    ghost use Rattle.ctl_tree.specs.Units.{SourceUnit, unit_code};
+
+    ghost Value = { List SourceUnit };
+
+    ghost coded = { coded_list unit_code };
+
+    ghost view = { λ u. u.units.items };
+
+    ghost invariant = { λ u. length u.units.items ≤ 64 };
+}
+
+impl Units {
+    pub fn new(alloc: Global) -> Units
+        ensures { result ≡ [] }
+    {
+        Units {
+            units: Vec::new(alloc),
+        }
+    }
+
+    /// Puts a unit last. Units that have no room for it stay as they were.
+    pub fn push(&mut self, unit: Unit) -> Result<(), Memory>
+        requires { length self.old < 64 }
+        ensures last { IfOk result (λ _. self.new ≡ self.old ++ (unit ∷ [])) }
+        ensures kept { IfErr result (λ _. self.new ≡ self.old) }
+    {
+        self.units.push(unit)?;
+        Ok(())
+    }
+
+    pub fn len(&self) -> u32
+        ensures value { result ≡ length self.now }
+        ensures few { result ≤ 64 }
+    {
+        self.units.len() as u32
+    }
+
+    /// The unit of a place in load order, where there is one.
+    pub fn get(&self, place: u32) -> Option<&Unit>
+        ensures { option_copied result ≡ slice_get self.now place }
+    {
+        self.units.get(place as usize)
+    }
+
+    /// The line of a node's token.
+    pub fn line_of(&self, node: Node) -> u32
+        requires { NodeExists self.now node }
+        ensures { result ≡ line_of self.now node }
+    {
+        let unit = &self.units[node.module as usize];
+        unit.tokens()[node.token as usize].line
+    }
+}
+
+#[cfg(test)]
+mod tests {
+    use super::*;
+    use crate::{Definition, Import, Sign, TokenKind};
+    use ctl_base::ByteText;
+    use sqlite_items::Items;
+
+    fn semicolon(line: u32) -> Token {
+        Token {
+            kind: TokenKind::Sign(Sign::Semicolon),
+            at: 0,
+            len: 1,
+            line,
+        }
+    }
+
+    /// A module of one import, whose own token is the second of two.
+    fn importer(alloc: Global, file: &str, line: u32) -> Result<Unit, Memory>
+        ensures { IfOk result (λ unit. length unit.tokens ≡ 2) }
+    {
+        let mut tokens = TokenList::new(alloc);
+        tokens.push(semicolon(1))?;
+        tokens.push(semicolon(line))?;
+        let mut imports: Items<Import> = Items::new(alloc);
+        let import = Import {
+            name: ByteText::new(alloc, file.as_bytes())?,
+            token: 1,
+        };
+        imports.push(import)?;
+        let definitions: Items<Definition> = Items::new(alloc);
+        let module = Module {
+            imports,
+            definitions,
+        };
+        Ok(Unit::new(TextArg::new(alloc, file)?, tokens, module))
+    }
+
+    #[test]
+    fn units_stand_in_load_order(rt: HostRuntime) -> Result<(), Memory> {
+        let alloc = rt.alloc();
+        let mut units = Units::new(alloc);
+        units.push(importer(alloc, "first.ctl", 3)?)?;
+        units.push(importer(alloc, "root.ctl", 7)?)?;
+        assert_eq!(rt; units.len(), 2);
+        let root = units.get(1).unwrap();
+        assert_eq!(rt; root.file().as_str(), "root.ctl");
+        assert_eq!(rt; root.tokens().len(), 2);
+        assert_eq!(rt; root.module().imports.len(), 1);
+        assert!(rt; units.get(2).is_none());
+        let node = Node {
+            module: 1,
+            token: 1,
+        };
+        assert_eq!(rt; units.line_of(node), 7);
+        Ok(())
+    }
+}

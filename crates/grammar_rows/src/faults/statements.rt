@@ -1,0 +1,148 @@
+//! Texts that spell no module, with the token and the line of the fault.
+//! `python3 tools/grammar_cases.py faults/statements` prints them.
+
+use crate::reading::Refused;
+
+// Simple statements.
+pub static SIMPLE_STATEMENTS: [Refused; 25] = [
+    ("void f() { a; }", 6, 1),
+    ("void f() { a }", 6, 1),
+    ("void f() { 1; }", 5, 1),
+    ("void f() { a + b; }", 6, 1),
+    ("void f() { (a) = 1; }", 5, 1),
+    ("void f() { a = ; }", 7, 1),
+    ("void f() { a = 1 }", 8, 1),
+    ("void f() { a = b = c; }", 8, 1),
+    ("void f() { a = { 1 }; }", 7, 1),
+    ("void f() { a == 1; }", 6, 1),
+    ("void f() { a[0]; }", 9, 1),
+    ("void f() { a[] = 1; }", 7, 1),
+    ("void f() { a.b; }", 8, 1),
+    ("void f() { f() = 1; }", 8, 1),
+    ("void f() { f().a = 1; }", 8, 1),
+    ("void f() { f() }", 8, 1),
+    ("void f() { f(); ", 9, 1),
+    ("void f() { a b }", 7, 1),
+    ("void f() { a b c; }", 7, 1),
+    ("void f() { int; }", 6, 1),
+    ("void f() { int a, b; }", 7, 1),
+    ("void f() { int[3] a; }", 6, 1),
+    ("void f() { a::b; }", 8, 1),
+    ("void f() { a[0] b; }", 9, 1),
+    ("void f() { ::a(1) }", 10, 1),
+];
+
+// Blocks.
+pub static BLOCKS: [Refused; 25] = [
+    ("void f() { void g() { } }", 5, 1),
+    ("void f() { struct A { int a; } }", 5, 1),
+    ("void f() { namespace a { } }", 5, 1),
+    ("void f() { import \"A\"; }", 5, 1),
+    ("void f() { input int a; }", 5, 1),
+    ("void f() { uniform int a; }", 5, 1),
+    ("void f() { const a = 1; }", 7, 1),
+    ("void f() { const int a; }", 8, 1),
+    ("void f() { int a = ; }", 8, 1),
+    ("void f() { int a[2; }", 9, 1),
+    ("void f() { ) }", 5, 1),
+    ("void f() { } }", 6, 1),
+    ("void f() { { }", 7, 1),
+    ("void f() { \"a\"; }", 5, 1),
+    ("void f() { true; }", 5, 1),
+    ("void f() { - a; }", 5, 1),
+    ("void f() { return", 6, 1),
+    ("void f() { return }", 6, 1),
+    ("void f() { return 1 }", 7, 1),
+    ("void f() { return 1, 2; }", 7, 1),
+    ("void f() { return { 1 }; }", 6, 1),
+    ("void f() { return return; }", 6, 1),
+    ("void f() { return int; }", 6, 1),
+    ("void f() { ctlversion 1; }", 5, 1),
+    ("void f() { break; continue; }", 6, 1),
+];
+
+// Prints.
+pub static PRINTS: [Refused; 14] = [
+    ("void f() { print; }", 6, 1),
+    ("void f() { print a; }", 6, 1),
+    ("void f() { print(); }", 7, 1),
+    ("void f() { print(,); }", 7, 1),
+    ("void f() { print(a,); }", 9, 1),
+    ("void f() { print(a }", 8, 1),
+    ("void f() { print(a) }", 9, 1),
+    ("void f() { print(\"a\" \"b\"); }", 8, 1),
+    ("void f() { print(\"a\" + b); }", 8, 1),
+    ("void f() { print(a + \"b\"); }", 9, 1),
+    ("void f() { print((\"a\")); }", 8, 1),
+    ("void f() { print({ 1 }); }", 7, 1),
+    ("void f() { print(a) = 1; }", 9, 1),
+    ("void print() { }", 1, 1),
+];
+
+// Branches.
+pub static BRANCHES: [Refused; 20] = [
+    ("void f() { if }", 6, 1),
+    ("void f() { if a; }", 6, 1),
+    ("void f() { if () ; }", 7, 1),
+    ("void f() { if (a }", 8, 1),
+    ("void f() { if (a) }", 9, 1),
+    ("void f() { if (a) ; else }", 11, 1),
+    ("void f() { if (a) ; else ; else ; }", 12, 1),
+    ("void f() { if (a) ; else if ; }", 12, 1),
+    ("void f() { if (a) ; else if (b) ; else ; else ; }", 18, 1),
+    ("void f() { if (a) if (b) ; else ; else ; else ; }", 18, 1),
+    ("void f() { if (a) ; ; else ; }", 11, 1),
+    ("void f() { else ; }", 5, 1),
+    ("void f() { if (a = 1) ; }", 8, 1),
+    ("void f() { if (a, b) ; }", 8, 1),
+    ("void f() { if (int a) ; }", 7, 1),
+    ("void f() { if (a) void g() { } }", 9, 1),
+    ("void f() { if { } }", 6, 1),
+    ("void f() { if (a) then; }", 10, 1),
+    ("void f() { if (a) ; else else ; }", 11, 1),
+    ("if (a) ;", 0, 1),
+];
+
+// Loops.
+pub static LOOPS: [Refused; 25] = [
+    ("void f() { while }", 6, 1),
+    ("void f() { while () ; }", 7, 1),
+    ("void f() { while a ; }", 6, 1),
+    ("void f() { while (a) }", 9, 1),
+    ("void f() { while (a; b) ; }", 8, 1),
+    ("void f() { while (a) else ; }", 9, 1),
+    ("void f() { for }", 6, 1),
+    ("void f() { for () ; }", 7, 1),
+    ("void f() { for (;;) ; }", 7, 1),
+    ("void f() { for (a; b; c = d) ; }", 8, 1),
+    ("void f() { for (a = 1; ; c = d) ; }", 11, 1),
+    ("void f() { for (a = 1; b; ) ; }", 13, 1),
+    ("void f() { for (a = 1; b; c) ; }", 14, 1),
+    ("void f() { for (a = 1; b; c = d;) ; }", 16, 1),
+    ("void f() { for (a = 1; b; int c = d) ; }", 13, 1),
+    ("void f() { for (a = 1, b; c; d = e) ; }", 10, 1),
+    ("void f() { for (g(); b; c = d) ; }", 8, 1),
+    ("void f() { for (a = 1; b; g()) ; }", 14, 1),
+    ("void f() { for (const int a = 1; b; c = d) ; }", 7, 1),
+    ("void f() { for (int a = 1 b; c = d) ; }", 11, 1),
+    ("void f() { for (int a; b; c = d) }", 16, 1),
+    ("void f() { for (a = { 1 }; b; c = d) ; }", 9, 1),
+    ("void f() { for (int a; b; c = d, e = f) ; }", 15, 1),
+    ("void f() { for int a; b; c = d ; }", 6, 1),
+    ("while (a) ;", 0, 1),
+];
+
+// Lines.
+pub static LINES: [Refused; 11] = [
+    ("void\nf()\n{\n  a = ;\n}\n", 7, 4),
+    ("void f()\n{\n", 5, 3),
+    ("\n\nvoid f() {\n\n", 5, 5),
+    ("const int a = // one\n/* two\n three */ ;", 4, 3),
+    ("const int a = 1 // end", 5, 1),
+    ("const int a =\n\n\n", 4, 4),
+    ("/* a\n b\n */ )", 0, 3),
+    ("struct A\n{\n int a;\n}\n;\n;\n", 8, 6),
+    ("const int a = 1;\n\n\n\n}", 6, 5),
+    ("ctlversion\n2;", 1, 2),
+    ("namespace a {\nnamespace b {\n}\n", 7, 4),
+];
