@@ -41,7 +41,7 @@ def code_out(raw, bits):
     return rnd(max(0, min(2**FRACTION, raw)) * (2**bits - 1), 2**FRACTION)
 
 
-BLANK = re.compile(rb"[\t\n\x0b\x0c\r ]*")
+BLANK = re.compile(rb"(?:[\t\n\x0b\x0c\r ]|//[^\n]*|/\*[\s\S]*?\*/)*")
 NAME = re.compile(rb"[A-Za-z_][A-Za-z0-9_]*")
 HEXADECIMAL = re.compile(rb"0[xX][A-Za-z0-9_.]*")
 NUMBER = re.compile(rb"\.?[0-9](?:[eE][+-]|[A-Za-z0-9_.])*")
@@ -151,11 +151,19 @@ ACCEPTED = [
     "{rOut=rIn*0.5+gIn;}",
     "\t{\n\x0brOut\x0c=\r\n rIn\t*\t0.5 ;\n}\n\n",
     " { rOut = rIn * 0.5 ; gOut = gIn*0.5;bOut = bIn *0.5;}\r\n",
+    # comments
+    " { rOut = rIn; /* half */ }",
+    " { rOut = rIn // half\n; }",
+    " // half\n { rOut = rIn; }",
+    " { rOut = rIn; }\n// half",
+    " { rOut = rIn/* 0.5; */*/**/gIn; /* gOut = \n\xc3 */ }",
 ]
 
 ACCEPTED_WHOLE = [
     HEAD.replace(" ", "\n") + "{gOut=bIn;}",
     "\n\t " + HEAD.replace("(", " ( ").replace(",", " , ").replace(")", " ) ") + "{ rOut = 0.5; }",
+    "/* half */ " + HEAD + " { }",
+    HEAD.replace("(", "( // in\n") + " { }",
 ]
 
 REFUSED = [
@@ -205,11 +213,8 @@ REFUSED = [
     (" { rOut = rIn; } }", "a closing brace more"),
     (" { rOut = rIn; } rOut = rIn;", "an assignment after the end"),
     (" rOut = rIn; }", "no opening brace"),
-    (" { rOut = rIn; /* half */ }", "a block comment in the body"),
-    (" { rOut = rIn // half\n; }", "a line comment in an assignment"),
-    (" // half\n { rOut = rIn; }", "a comment after the head"),
-    (" { rOut = rIn; }\n// half", "a comment at the end"),
     (" { rOut = rIn; } /*", "a comment that is not closed"),
+    (" { rOut = rIn; // }", "a closing brace in a comment"),
     (" { rOut = rIn; }\0", "a byte 0"),
     (" { rOut = rIn; }\x1f", "a byte 31"),
     (" { rOut = rIn; \xc3 }", "a byte of 128 and more"),
@@ -222,8 +227,6 @@ REFUSED_WHOLE = [
     ("", "no text"),
     (" \n\t", "blanks alone"),
     ("{ rOut = rIn; }", "no head"),
-    ("/* half */ " + HEAD + " { }", "a comment before the head"),
-    (HEAD.replace("(", "( // in\n") + " { }", "a comment in the head"),
     (HEAD.replace("void", "voids") + " { }", "a keyword that goes on"),
     (HEAD.replace("main", "main2") + " { }", "a name in the head that goes on"),
     (HEAD.replace("void main", "voidmain") + " { }", "no blank between two names"),

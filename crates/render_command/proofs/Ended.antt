@@ -1,5 +1,5 @@
 -- How the call ends, after the store or before it.
-use Rattle.std.proofs.Common.{◌≡◌, ℕ, ◌≤◌, List, length, Option, Some, None, Result, Ok, Err, IfSome, ap, sym, ◌∙◌, subst, arith}
+use Rattle.std.proofs.Common.{◌≡◌, ℕ, ◌≤◌, List, length, Option, Some, None, Ok, Err, IfSome, inl, inr, ap, sym, ◌∙◌, subst, arith}
 use Rattle.std.specs.FinMap as map
 use Rattle.outside.specs.Causes.{Rose}
 use Rattle.outside.specs.Files.{Held, Stores, MayLeave}
@@ -7,7 +7,7 @@ use Rattle.render_command.specs.Answers.{AnswersIfTold, NoFault}
 use Rattle.render_command.specs.Ends.{Counted, EndsIfTold, Finishes}
 use Rattle.render_command.specs.Verdict.{Judges, Plan}
 use Rattle.render_command.specs.declared.status.Status.{Status}
-use Rattle.render_command.specs.declared.status.Status.TheVariants.{Done, Exists, NotFound, Image, ReadFault, WriteFault, Memory, Later}
+use Rattle.render_command.specs.declared.status.Status.TheVariants.{Done, Exists, NotFound, Source, Image, ReadFault, WriteFault, Memory, Later}
 use Rattle.render_command.proofs.Judged.{one_verdict}
 
 done_at : {Y : Type 0} (E : Type 0) (see : Y → Plan) (old new : Option Held) (words : List (List ℕ)) (y : Y) (name bytes : List ℕ) (x : Unit {0})
@@ -45,10 +45,16 @@ fault_ends see old before new words y name bytes e h same k is whole =
 
 -- a plan and a status that stops are two verdicts
 apart : {A : Type 0} (held : Held) (words : List (List ℕ)) (plan : Plan) (status : Status) → Judges held words (Ok plan) → Judges held words (Err status) → A
-apart held words plan status h k = let e : ◌≡◌ {A = Result Plan Status} (Ok plan) (Err status) = one_verdict held words (Ok plan) (Err status) h k in cc
+apart held words plan status h k = elim (one_verdict held words (Ok plan) (Err status) h k) [
+  | inl e ↦ absurd cc
+  | inr two ↦ let e = two.first in absurd cc
+]
 
 same_plan : (held : Held) (words : List (List ℕ)) (plan other : Plan) → Judges held words (Ok plan) → Judges held words (Ok other) → plan ≡ other
-same_plan held words plan other h k = let e : ◌≡◌ {A = Result Plan Status} (Ok plan) (Ok other) = one_verdict held words (Ok plan) (Ok other) h k in cc
+same_plan held words plan other h k = elim (one_verdict held words (Ok plan) (Ok other) h k) [
+  | inl e ↦ cc
+  | inr two ↦ let e = two.first in absurd cc
+]
 
 stops_at : {Y : Type 0} (see : Y → Plan) (held : Held) (words : List (List ℕ)) (status : Status) (plan : Plan)
     → AnswersIfTold see (Some held) (Err status) (λ held. Judges held words) → NoFault {X = Y} (Err status) → Judges held words (Ok plan) → Finishes status
@@ -58,6 +64,7 @@ stops_at see held words (ReadFault name) plan h k j = absurd k
 stops_at see held words Memory plan h k j = tt
 stops_at see held words Exists plan h k j = apart held words plan Exists j h
 stops_at see held words (NotFound name) plan h k j = apart held words plan (NotFound name) j h
+stops_at see held words (Source file line fault) plan h k j = apart held words plan (Source file line fault) j h
 stops_at see held words (Image fault) plan h k j = apart held words plan (Image fault) j h
 stops_at see held words Later plan h k j = apart held words plan Later j h
 
@@ -90,6 +97,7 @@ completes_at held (Some new) words f f' l l' (ReadFault name) plan h k j a b = a
 completes_at held (Some new) words f f' l l' WriteFault plan h k j a b = absurd (b k.1)
 completes_at held (Some new) words f f' l l' Exists plan h k j a b = apart held words plan Exists j h.0
 completes_at held (Some new) words f f' l l' (NotFound name) plan h k j a b = apart held words plan (NotFound name) j h.0
+completes_at held (Some new) words f f' l l' (Source file line fault) plan h k j a b = apart held words plan (Source file line fault) j h.0
 completes_at held (Some new) words f f' l l' (Image fault) plan h k j a b = apart held words plan (Image fault) j h.0
 completes_at held (Some new) words f f' l l' Later plan h k j a b = apart held words plan Later j h.0
 

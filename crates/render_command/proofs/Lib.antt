@@ -1,7 +1,3 @@
-pub mod FirstLexemes
-pub mod FirstFronts
-pub mod FirstPoints
-pub mod FirstCovers
 pub mod FirstSpellings
 pub mod FirstRefusals
 pub mod Spoken

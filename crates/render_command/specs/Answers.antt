@@ -7,7 +7,7 @@ use Rattle.render_command.specs.Ends.{Names, RefusesWords}
 use Rattle.render_command.specs.Verdict.{TextSays}
 use Rattle.render_command.specs.declared.first_text.tree.FirstText.{FirstText}
 use Rattle.render_command.specs.declared.status.Status.{Status}
-use Rattle.render_command.specs.declared.status.Status.TheVariants.{Done, ReadFault, WriteFault, Memory, Later}
+use Rattle.render_command.specs.declared.status.Status.TheVariants.{Done, ReadFault, WriteFault, Memory}
 
 -- A step stops at this status, where the claim holds of it. No step before the store ends as the store does.
 abbrev pub Stops : (Status → Type 0) → Status → Type 0
@@ -58,14 +58,12 @@ NoFault (Err (ReadFault name)) = ⊥
 NoFault (Err WriteFault) = ⊥
 NoFault (Err status) = Unit {0}
 
--- a read fault of the step names such a name
-abbrev pub FaultNames : {X : Type 0} → (List ℕ → Type 0) → Result X Status → Type 0
-FaultNames P (Ok x) = Unit {0}
-FaultNames P (Err status) = Names P status
+-- a read fault of the step names such a name, and what it says of the text such a file
+abbrev pub FaultNames : {X : Type 0} → (List ℕ → Type 0) → (List ℕ → Type 0) → Result X Status → Type 0
+FaultNames P Q (Ok x) = Unit {0}
+FaultNames P Q (Err status) = Names P Q status
 
--- What a text says, where it is one; Later where it is none.
-abbrev pub ReadsText : List ℕ → Result FirstText Status → Type 0
-ReadsText text (Ok tree) = TextSays text (Some tree)
-ReadsText text (Err Memory) = Unit {0}
-ReadsText text (Err Later) = TextSays text None
-ReadsText text (Err status) = ⊥
+-- what the text of the file says, unless memory fails
+abbrev pub ReadsText : List ℕ → List ℕ → Result FirstText Status → Type 0
+ReadsText file text (Err Memory) = Unit {0}
+ReadsText file text result = TextSays file text result

@@ -5,7 +5,7 @@ use Rattle.outside.specs.Causes.{Rose}
 use Rattle.outside.specs.Files.{Held, MayLeave}
 use Rattle.render_command.specs.Command.{Command}
 use Rattle.render_command.specs.declared.status.Status.{Status}
-use Rattle.render_command.specs.declared.status.Status.TheVariants.{Done, ReadFault, WriteFault, Memory, Later}
+use Rattle.render_command.specs.declared.status.Status.TheVariants.{Done, NotFound, Source, ReadFault, WriteFault, Memory, Later}
 use Rattle.render_command.specs.Verdict.{Judges, Plan}
 
 -- what the files hold after, and what was asked of them
@@ -33,10 +33,12 @@ abbrev pub RefusesWords : Option Command → Status → Type 0
 RefusesWords None status = status ≡ Later
 RefusesWords (Some command) status = Unit {0}
 
--- a read fault names such a name
-abbrev pub Names : (List ℕ → Type 0) → Status → Type 0
-Names P (ReadFault name) = P name
-Names P status = Unit {0}
+-- a read fault names such a name, and what is said of the text names such a file
+abbrev pub Names : (List ℕ → Type 0) → (List ℕ → Type 0) → Status → Type 0
+Names P Q (ReadFault name) = P name
+Names P Q (NotFound name) = Q name
+Names P Q (Source file line fault) = Q file
+Names P Q status = Unit {0}
 
 -- all that was asked is done, or memory ran out
 abbrev pub Finishes : Status → Type 0

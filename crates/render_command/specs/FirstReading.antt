@@ -1,118 +1,91 @@
 -- What the parts of the reader of a first text say. The definitions of a first text do not rest on these.
-use Rattle.std.specs.Prelude.{◌≡◌, ◌==◌, ◌||◌, ◌&&◌, slice_index, ℕ, ℤ, Bool, true, false, List, [], ◌∷◌, ◌++◌, Option, Some, None}
+use Rattle.std.specs.Prelude.{◌≡◌, ℕ, Bool, true, false, List, [], ◌∷◌, ◌++◌, Option, Some, None}
 use Rattle.render_command.specs.declared.first_text.tree.Factor.{Factor}
 use Rattle.render_command.specs.declared.first_text.tree.Operator.{Operator}
 use Rattle.render_command.specs.declared.first_text.tree.Product.{Product}
 use Rattle.render_command.specs.declared.first_text.tree.Sum.{Sum}
 use Rattle.render_command.specs.declared.first_text.tree.Assignment.{Assignment}
 use Rattle.render_command.specs.declared.first_text.tree.FirstText.{FirstText}
-use Rattle.render_command.specs.declared.first_text.tokens.Name.{Name}
-use Rattle.render_command.specs.declared.first_text.tokens.Symbol.{Symbol}
-use Rattle.render_command.specs.declared.first_text.tokens.Symbol.TheVariants.{OpenBrace, Star}
-use Rattle.render_command.specs.declared.first_text.tokens.Token.{Token}
-use Rattle.render_command.specs.declared.first_text.tokens.Token.TheVariants.{Sign}
+use Rattle.render_command.specs.declared.first_text.part.Part.{Part}
+use Rattle.render_command.specs.declared.first_text.part.Part.TheVariants.{Sign}
+use Rattle.ctl_tree.specs.declared.sign.Sign.TheVariants.{OpenCurly, Star}
+use Rattle.ctl_tree.specs.declared.token.Token.{Token}
+use Rattle.ctl_tree.specs.Lexemes.{lexemes_of}
 use Rattle.render_command.specs.declared.first_text.refusal.Refusal.{Refusal}
 use Rattle.render_command.specs.declared.first_text.refusal.Refusal.TheVariants.{OtherText, NoMemory}
-use Rattle.render_command.specs.FirstTokens.{name_bytes, symbol_bytes, IsPointNumber, IsToken, StandFor}
-use Rattle.render_command.specs.FirstText.{head_tokens, factor_token, operator_token, product_tokens, sum_tokens, assignment_tokens, tree_tokens}
+use Rattle.render_command.specs.FirstParts.{parts_of}
+use Rattle.render_command.specs.FirstText.{head_parts, factor_part, operator_part, product_parts, sum_parts, assignment_parts, tree_parts}
 
 -- where the text is refused for what it is, the fact holds
 abbrev pub Refuses : Refusal → Type 0 → Type 0
 Refuses OtherText P = P
 Refuses NoMemory P = Unit {0}
 
--- Bytes
+-- what the tokens of a source are
+abbrev pub parts_in : List ℕ → List Token → List Part
+parts_in source tokens = parts_of (lexemes_of source tokens)
 
--- the bytes spell no name, no sign, no point number
-abbrev pub NoName : List ℕ → Type 0
-NoName bytes = (name : Name) → bytes ≡ name_bytes name → ⊥
+-- the first of the parts, if there is one, and what is left
+abbrev pub Splits : List Part → Option Part → List Part → Type 0
+Splits parts None rest = (parts ≡ []) × (rest ≡ [])
+Splits parts (Some first) rest = parts ≡ first ∷ rest
 
-abbrev pub NoSymbol : List ℕ → Type 0
-NoSymbol bytes = (symbol : Symbol) → bytes ≡ symbol_bytes symbol → ⊥
+-- the part is not the first
+abbrev pub Lacks : Part → List Part → Type 0
+Lacks part parts = (rest : List Part) → parts ≡ part ∷ rest → ⊥
 
-abbrev pub NoPointNumber : ℕ → List ℕ → Type 0
-NoPointNumber F bytes = (raw : ℤ) → IsPointNumber F bytes raw → ⊥
+-- whether the part is the first, and what is left then
+abbrev pub Takes : Part → List Part → List Part → Bool → Type 0
+Takes part parts rest true = parts ≡ part ∷ rest
+Takes part parts rest false = (rest ≡ parts) × Lacks part parts
 
--- the token that begins the bytes, with its length, or none begins them
-abbrev pub BeginsWith : ℕ → List ℕ → Option (Token × ℕ) → Type 0
-BeginsWith F bytes None = (token : Token) (n : ℕ) → IsToken F token bytes n → ⊥
-BeginsWith F bytes (Some t) = IsToken F t.0 bytes t.1
+abbrev pub NoStar : List Part → Type 0
+NoStar parts = Lacks (Sign Star) parts
 
--- no tokens stand for the text
-abbrev pub NoTokens : ℕ → List ℕ → Type 0
-NoTokens F text = (tokens : List Token) → StandFor F tokens text → ⊥
-
--- whether == stands at the front
-abbrev pub begins_double : List ℕ → Bool
-begins_double bytes = slice_index bytes 0 == 61 && slice_index bytes 1 == 61
-
--- a point, e or E
-abbrev pub is_mark : ℕ → Bool
-is_mark b = b == 46 || (b == 101 || b == 69)
-
--- Tokens
-
--- the first token, if there is one, and what is left
-abbrev pub Splits : List Token → Option Token → List Token → Type 0
-Splits tokens None rest = (tokens ≡ []) × (rest ≡ [])
-Splits tokens (Some first) rest = tokens ≡ first ∷ rest
-
--- the token is not the first
-abbrev pub Lacks : Token → List Token → Type 0
-Lacks token tokens = (rest : List Token) → tokens ≡ token ∷ rest → ⊥
-
--- whether the token is the first, and what is left then
-abbrev pub Takes : Token → List Token → List Token → Bool → Type 0
-Takes token tokens rest true = tokens ≡ token ∷ rest
-Takes token tokens rest false = (rest ≡ tokens) × Lacks token tokens
-
-abbrev pub NoStar : List Token → Type 0
-NoStar tokens = Lacks (Sign Star) tokens
-
-abbrev pub NoOperator : List Token → Type 0
-NoOperator tokens = (operator : Operator) → Lacks (operator_token operator) tokens
+abbrev pub NoOperator : List Part → Type 0
+NoOperator parts = (operator : Operator) → Lacks (operator_part operator) parts
 
 -- the operator that is first, if one is, and what is left then
-abbrev pub TakesOperator : List Token → List Token → Option Operator → Type 0
-TakesOperator tokens rest None = (rest ≡ tokens) × NoOperator tokens
-TakesOperator tokens rest (Some operator) = tokens ≡ operator_token operator ∷ rest
+abbrev pub TakesOperator : List Part → List Part → Option Operator → Type 0
+TakesOperator parts rest None = (rest ≡ parts) × NoOperator parts
+TakesOperator parts rest (Some operator) = parts ≡ operator_part operator ∷ rest
 
--- the tokens at the front are others
-abbrev pub NoFront : List Token → List Token → Type 0
-NoFront front tokens = (rest : List Token) → tokens ≡ front ++ rest → ⊥
+-- the parts at the front are others
+abbrev pub NoFront : List Part → List Part → Type 0
+NoFront front parts = (rest : List Part) → parts ≡ front ++ rest → ⊥
 
 -- the head and its brace, and what follows
-abbrev pub headed : List Token → List Token
-headed rest = head_tokens ++ (Sign OpenBrace ∷ rest)
+abbrev pub headed : List Part → List Part
+headed rest = head_parts ++ (Sign OpenCurly ∷ rest)
 
-abbrev pub NoHead : List Token → Type 0
-NoHead tokens = (rest : List Token) → tokens ≡ headed rest → ⊥
+abbrev pub NoHead : List Part → Type 0
+NoHead parts = (rest : List Part) → parts ≡ headed rest → ⊥
 
 -- no factor is first
-abbrev pub NoFactor : List Token → Type 0
-NoFactor tokens = (factor : Factor) → Lacks (factor_token factor) tokens
+abbrev pub NoFactor : List Part → Type 0
+NoFactor parts = (factor : Factor) → Lacks (factor_part factor) parts
 
 -- at the front stands the product, and it does not go on
-abbrev pub IsProduct : List Token → Product → List Token → Type 0
-IsProduct tokens product rest = (tokens ≡ product_tokens product ++ rest) × NoStar rest
+abbrev pub IsProduct : List Part → Product → List Part → Type 0
+IsProduct parts product rest = (parts ≡ product_parts product ++ rest) × NoStar rest
 
-abbrev pub NoProduct : List Token → Type 0
-NoProduct tokens = (product : Product) (rest : List Token) → IsProduct tokens product rest → ⊥
+abbrev pub NoProduct : List Part → Type 0
+NoProduct parts = (product : Product) (rest : List Part) → IsProduct parts product rest → ⊥
 
 -- at the front stands the sum, and it does not go on
-abbrev pub IsSum : List Token → Sum → List Token → Type 0
-IsSum tokens sum rest = (tokens ≡ sum_tokens sum ++ rest) × NoStar rest × NoOperator rest
+abbrev pub IsSum : List Part → Sum → List Part → Type 0
+IsSum parts sum rest = (parts ≡ sum_parts sum ++ rest) × NoStar rest × NoOperator rest
 
-abbrev pub NoSum : List Token → Type 0
-NoSum tokens = (sum : Sum) (rest : List Token) → IsSum tokens sum rest → ⊥
+abbrev pub NoSum : List Part → Type 0
+NoSum parts = (sum : Sum) (rest : List Part) → IsSum parts sum rest → ⊥
 
 -- at the front stands the assignment
-abbrev pub IsAssignment : List Token → Assignment → List Token → Type 0
-IsAssignment tokens assignment rest = tokens ≡ assignment_tokens assignment ++ rest
+abbrev pub IsAssignment : List Part → Assignment → List Part → Type 0
+IsAssignment parts assignment rest = parts ≡ assignment_parts assignment ++ rest
 
-abbrev pub NoAssignment : List Token → Type 0
-NoAssignment tokens = (assignment : Assignment) (rest : List Token) → IsAssignment tokens assignment rest → ⊥
+abbrev pub NoAssignment : List Part → Type 0
+NoAssignment parts = (assignment : Assignment) (rest : List Part) → IsAssignment parts assignment rest → ⊥
 
--- the tokens are those of no tree
-abbrev pub NoTree : List Token → Type 0
-NoTree tokens = (tree : FirstText) → tokens ≡ tree_tokens tree → ⊥
+-- the parts are those of no tree
+abbrev pub NoTree : List Part → Type 0
+NoTree parts = (tree : FirstText) → parts ≡ tree_parts tree → ⊥

@@ -1,5 +1,5 @@
 pub mod Command
-pub mod FirstTokens
+pub mod FirstParts
 pub mod FirstText
 pub mod FirstRun
 pub mod FirstReading

@@ -1,22 +1,49 @@
 -- The number of each status, and the line that is said for it.
 use Rattle.std.specs.Prelude.{ℕ, List, [], ◌∷◌, ◌++◌, codes}
+use Rattle.std.specs.Fmt.{decimal}
+use Rattle.ctl_tree.specs.declared.fault.LexKind.{LexKind}
+use Rattle.ctl_tree.specs.declared.fault.LexKind.TheVariants.{NoToken, OpenComment, OpenText, Literal, NotAscii}
+use Rattle.ctl_tree.specs.declared.fault.SyntaxKind.{SyntaxKind}
+use Rattle.ctl_tree.specs.declared.fault.SyntaxKind.TheVariants.{NotHere, Depth as TooDeep}
 use Rattle.dpx_file.specs.declared.fault.DpxFault.{DpxFault}
 use Rattle.dpx_file.specs.declared.fault.DpxFault.TheVariants.{NotDpx, Truncated, Encrypted, Orientation, Elements, Size, Sign, Descriptor, Depth, Packing, Compressed}
 use Rattle.render_command.specs.declared.status.ImageFault.{ImageFault}
 use Rattle.render_command.specs.declared.status.ImageFault.TheVariants.{Absent, TooLong, Dpx}
+use Rattle.render_command.specs.declared.status.SourceFault.{SourceFault}
+use Rattle.render_command.specs.declared.status.SourceFault.TheVariants.{Lex, Syntax, TooLong as TextTooLong}
 use Rattle.render_command.specs.declared.status.Status.{Status}
-use Rattle.render_command.specs.declared.status.Status.TheVariants.{Done, Exists, NotFound, Image, ReadFault, WriteFault, Memory, Later}
+use Rattle.render_command.specs.declared.status.Status.TheVariants.{Done, Exists, NotFound, Source, Image, ReadFault, WriteFault, Memory, Later}
 
 -- the number that the program ends with
 abbrev pub code_of : Status → ℕ
 code_of Done = 0
 code_of Exists = 3
 code_of (NotFound name) = 4
+code_of (Source file n fault) = 5
 code_of (Image fault) = 8
 code_of (ReadFault name) = 10
 code_of WriteFault = 11
 code_of Memory = 12
 code_of Later = 13
+
+-- the name of a fault of the tokens
+abbrev pub lex_kind : LexKind → List ℕ
+lex_kind NoToken = codes "NoToken"
+lex_kind OpenComment = codes "OpenComment"
+lex_kind OpenText = codes "OpenText"
+lex_kind Literal = codes "Literal"
+lex_kind NotAscii = codes "NotAscii"
+
+-- the name of a fault of the grammar
+abbrev pub syntax_kind : SyntaxKind → List ℕ
+syntax_kind NotHere = codes "NotHere"
+syntax_kind TooDeep = codes "Depth"
+
+-- the name of a fault of the text: that of the inner kind, where there is one
+abbrev pub source_kind : SourceFault → List ℕ
+source_kind (Lex kind) = lex_kind kind
+source_kind (Syntax kind) = syntax_kind kind
+source_kind TextTooLong = codes "TooLong"
 
 -- the name of a fault of the format
 abbrev pub dpx_kind : DpxFault → List ℕ
@@ -47,6 +74,7 @@ abbrev pub line_of : List ℕ → Status → List ℕ
 line_of destination Done = []
 line_of destination Exists = line (destination ++ codes " exists")
 line_of destination (NotFound name) = line (name ++ codes " not found")
+line_of destination (Source file n fault) = line (file ++ codes " line " ++ decimal n ++ codes ": " ++ source_kind fault)
 line_of destination (Image fault) = line (codes "image: " ++ image_kind fault)
 line_of destination (ReadFault name) = line (codes "read fault on " ++ name)
 line_of destination WriteFault = line (codes "write fault")

@@ -1,11 +1,11 @@
 //! First texts: transformations of a pixel that are sums of products, channel by channel.
 
+mod part;
 mod read;
 mod refusal;
 mod run;
 #[cfg(test)]
 mod tests;
-mod tokens;
 mod tree;
 
 pub use read::{one_tree, read_first_text};

@@ -9,4 +9,4 @@ pub mod say;
 pub mod status;
 
 pub use order::render;
-pub use status::{ImageFault, Status};
+pub use status::{ImageFault, SourceFault, Status};

@@ -1,6 +1,6 @@
 //! The steps of the command, in their order.
 
-ghost use Rattle.std.specs.Prelude.{◌≡◌, ℕ, ◌<◌, ◌^◌, List, IfOk, IfSome, Ok, Some, length};
+ghost use Rattle.std.specs.Prelude.{◌≡◌, ℕ, ◌<◌, ◌≤◌, ◌^◌, List, IfOk, IfSome, Ok, Some, length};
 ghost use Rattle.std.specs.FinMap as map;
 ghost use Rattle.outside.specs.Causes.{Rose};
 ghost use Rattle.dpx_file.specs.Writing.{dpx_writing};
@@ -9,15 +9,17 @@ ghost use Rattle.render_command.specs.Command.{command_of, destination_of};
 ghost use Rattle.render_command.specs.Ends.{Counted, EndsIfTold, Finishes, Names, RefusesWords};
 ghost use Rattle.render_command.specs.Lines.{line_of};
 ghost use Rattle.render_command.specs.Said.{IsHeard, Speaks};
-ghost use Rattle.render_command.specs.Verdict.{Asked as Wanted, AsksFor, Judges, OneVerdict, Plan as Planned, asked_of, free_of, image_of, text_bytes};
+ghost use Rattle.render_command.specs.Verdict.{Asked as Wanted, AsksFor, IsTextName, Judges, OneVerdict, Plan as Planned, asked_of, free_of, image_of, text_bytes};
 
 use crate::command::{Command, destination, read_words};
 use crate::first_text::{FirstText, read_first_text};
 use crate::picture::render_image;
 use crate::say::say_status;
-use crate::status::{ImageFault, Status};
+use crate::status::{ImageFault, SourceFault, Status};
 use ctl_base::limits::{IMAGE_BYTES, TEXT_BYTES};
 use ctl_base::{ByteText, Ledger, Memory, Steps, TextArg};
+use ctl_lexer::{LexFault, lex};
+use ctl_parser::{SyntaxFault, parse};
 use dpx_file::{Canvas, Image, ReadFault};
 use outside::{Console, FetchFault, Fetched, FileBox};
 use std::alloc::Global;
@@ -37,7 +39,7 @@ pub fn render<F: FileBox, C: Console, L: Ledger>(
     requires { length words.now < 2 ^ 32 }
     ensures ends { EndsIfTold (F.held files.old) (F.held files.new) words.now result }
     ensures counted { Counted (F.faults files.old) (F.faults files.new) (F.lost files.old) (F.lost files.new) result }
-    ensures named { Names (AsksFor words.now) result }
+    ensures named { Names (AsksFor words.now) (IsTextName words.now) result }
     ensures refused { RefusesWords (command_of words.now) result }
 
     // Nothing but a failure of the files, or want of memory, keeps a good command from its end.
@@ -54,8 +56,8 @@ pub fn render<F: FileBox, C: Console, L: Ledger>(
     status
 }
 
-/// What words ask of the files has at most one verdict: so each status comes exactly where the verdict is it, but for
-/// want of memory and what the files answer by failing.
+/// What words ask of the files has at most one verdict, but that a text may have more than one fault of its tokens. So
+/// each status comes exactly where the verdict is it, but for want of memory and what the files answer by failing.
 pub fn one_verdict()
     ensures { OneVerdict }
 {}
@@ -64,7 +66,7 @@ pub fn one_verdict()
 fn carry_out<F: FileBox>(alloc: Global, words: &[TextArg], files: &mut F) -> Status
     ensures ends { EndsIfTold (F.held files.old) (F.held files.new) words.now result }
     ensures counted { Counted (F.faults files.old) (F.faults files.new) (F.lost files.old) (F.lost files.new) result }
-    ensures named { Names (AsksFor words.now) result }
+    ensures named { Names (AsksFor words.now) (IsTextName words.now) result }
     ensures refused { RefusesWords (command_of words.now) result }
     ensures served { IfSome (F.held files.old) (λ held. (plan : Planned) → Judges held words.now (Ok plan) →
         F.serves files.old plan.destination (length plan.bytes) → Finishes result) }
@@ -102,11 +104,11 @@ fn plan_of<'a, F: FileBox>(
     ensures counted { CountedRead (F.faults files.old) (F.faults files.new) result }
     ensures lost { F.lost files.new ≡ F.lost files.old }
     ensures served { (to : List ℕ) (n : ℕ) → F.serves files.old to n → F.serves files.new to n × NoFault result }
-    ensures named { FaultNames (AsksFor words.now) result }
+    ensures named { FaultNames (AsksFor words.now) (IsTextName words.now) result }
     ensures refused { StopsAtWords (command_of words.now) result }
 {
     let asked = ask(alloc, words, files)?;
-    let text = read_text(alloc, asked.text.as_slice())?;
+    let text = read_text(alloc, asked.command.text, asked.text.as_slice())?;
     let image = fetch_image(alloc, files, asked.command.source)?;
     let canvas = render_image(alloc, &text, &image)?;
     Ok(Plan {
@@ -123,12 +125,13 @@ fn ask<'a, F: FileBox>(
     files: &mut F,
 ) -> Result<Asked<'a>, Status>
     ensures gives { GivesIfTold (λ a. record { command = record { text = a.command.text.now; source = a.command.source.now; destination = a.command.destination.now }; text = a.text }) (F.held files.old) result (λ held. asked_of held words.now) }
+    ensures short { IfOk result (λ a. length a.text ≤ 2 ^ 24) }
     ensures spelt { IfOk result (λ a. command_of words.now ≡ Some (record { text = a.command.text.now; source = a.command.source.now; destination = a.command.destination.now })) }
     ensures held { F.held files.new ≡ F.held files.old }
     ensures counted { CountedRead (F.faults files.old) (F.faults files.new) result }
     ensures lost { F.lost files.new ≡ F.lost files.old }
     ensures served { (to : List ℕ) (n : ℕ) → F.serves files.old to n → F.serves files.new to n × NoFault result }
-    ensures named { FaultNames (AsksFor words.now) result }
+    ensures named { FaultNames (AsksFor words.now) (IsTextName words.now) result }
     ensures refused { StopsAtWords (command_of words.now) result }
 {
     let Some(command) = read_words(words) else {
@@ -146,7 +149,7 @@ fn test_free<F: FileBox>(alloc: Global, files: &mut F, name: &TextArg) -> Result
     ensures counted { CountedRead (F.faults files.old) (F.faults files.new) result }
     ensures lost { F.lost files.new ≡ F.lost files.old }
     ensures served { (to : List ℕ) (n : ℕ) → F.serves files.old to n → F.serves files.new to n × NoFault result }
-    ensures named { FaultNames (λ n. n ≡ name.now) result }
+    ensures named { FaultNames (λ n. n ≡ name.now) (λ _. ⊥) result }
 {
     let copy = name.copy(alloc)?;
     match files.has(name.as_str()) {
@@ -158,29 +161,55 @@ fn test_free<F: FileBox>(alloc: Global, files: &mut F, name: &TextArg) -> Result
 
 fn fetch_text<F: FileBox>(alloc: Global, files: &mut F, name: &TextArg) -> Result<ByteText, Status>
     ensures gives { GivesIfTold (λ t. t) (F.held files.old) result (λ held. text_bytes (map.get held name.now) name.now) }
+    ensures short { IfOk result (λ t. length t ≤ 2 ^ 24) }
     ensures held { F.held files.new ≡ F.held files.old }
     ensures counted { CountedRead (F.faults files.old) (F.faults files.new) result }
     ensures lost { F.lost files.new ≡ F.lost files.old }
     ensures served { (to : List ℕ) (n : ℕ) → F.serves files.old to n → F.serves files.new to n × NoFault result }
-    ensures named { FaultNames (λ n. n ≡ name.now) result }
+    ensures named { FaultNames (λ n. n ≡ name.now) (λ n. n ≡ name.now) result }
 {
     let copy = name.copy(alloc)?;
     match files.fetch(alloc, name.as_str(), TEXT_BYTES) {
         Ok(Fetched::Bytes(bytes)) => Ok(bytes),
         Ok(Fetched::Absent) => Err(Status::NotFound { name: copy }),
-        Ok(Fetched::TooLong { limit: _ }) => Err(Status::Later),
+        Ok(Fetched::TooLong { limit: _ }) => Err(Status::Source {
+            file: copy,
+            line: 0,
+            fault: SourceFault::TooLong,
+        }),
         Err(FetchFault::Failed) => Err(Status::ReadFault { name: copy }),
         Err(FetchFault::Memory) => Err(Status::Memory),
     }
 }
 
-// What the text says, where it is a first text.
+// What the text of a file says.
 #[tactic(auto, unfolding(crate::specs::Verdict::TextSays))]
-fn read_text(alloc: Global, text: &[u8]) -> Result<FirstText, Status>
-    ensures { ReadsText text.now result }
+fn read_text(alloc: Global, name: &TextArg, text: &[u8]) -> Result<FirstText, Status>
+    requires short { length text.now ≤ 2 ^ 24 }
+    ensures says { ReadsText name.now text.now result }
+    ensures named { FaultNames (λ _. ⊥) (λ n. n ≡ name.now) result }
 {
-    match read_first_text(alloc, text)? {
-        Some(text) => Ok(text),
+    let file = name.copy(alloc)?;
+    let tokens = match lex(alloc, text) {
+        Ok(tokens) => tokens,
+        Err(LexFault::At { at: _, line, kind }) => return Err(Status::Source {
+            file,
+            line,
+            fault: SourceFault::Lex(kind),
+        }),
+        Err(LexFault::Memory) => return Err(Status::Memory),
+    };
+    match parse(alloc, text, tokens.as_slice()) {
+        Ok(_) => {}
+        Err(SyntaxFault::At { at: _, line, kind }) => return Err(Status::Source {
+            file,
+            line,
+            fault: SourceFault::Syntax(kind),
+        }),
+        Err(SyntaxFault::Memory) => return Err(Status::Memory),
+    }
+    match read_first_text(alloc, text, tokens.as_slice())? {
+        Some(tree) => Ok(tree),
         None => Err(Status::Later),
     }
 }
@@ -191,7 +220,7 @@ fn fetch_image<F: FileBox>(alloc: Global, files: &mut F, name: &TextArg) -> Resu
     ensures counted { CountedRead (F.faults files.old) (F.faults files.new) result }
     ensures lost { F.lost files.new ≡ F.lost files.old }
     ensures served { (to : List ℕ) (n : ℕ) → F.serves files.old to n → F.serves files.new to n × NoFault result }
-    ensures named { FaultNames (λ n. n ≡ name.now) result }
+    ensures named { FaultNames (λ n. n ≡ name.now) (λ _. ⊥) result }
 {
     let copy = name.copy(alloc)?;
     let bytes = match files.fetch(alloc, name.as_str(), IMAGE_BYTES) {

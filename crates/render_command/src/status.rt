@@ -1,7 +1,19 @@
 //! How the command ends.
 
 use ctl_base::{Memory, TextArg};
+use ctl_tree::{LexKind, SyntaxKind};
 use dpx_file::DpxFault;
+
+/// Why a text is refused.
+#[derive(Clone, Copy, Debug, PartialEq, Eq)]
+pub enum SourceFault {
+    /// At a place no token begins.
+    Lex(LexKind),
+    /// The tokens spell no module of a nesting that is allowed.
+    Syntax(SyntaxKind),
+    /// The text has more than 2^24 bytes.
+    TooLong,
+}
 
 /// Why the source gives no image.
 #[derive(Clone, Copy, Debug, PartialEq, Eq)]
@@ -22,11 +34,23 @@ pub enum Status {
     /// The destination is held already.
     Exists,
     /// The text is not held.
-    NotFound { name: TextArg },
+    NotFound {
+        name: TextArg,
+    },
+    /// The text is refused at this line, and at line 0 where no place of it is at fault.
+    Source {
+        file: TextArg,
+        line: u32,
+        fault: SourceFault,
+    },
     /// The source gives no image.
-    Image { fault: ImageFault },
+    Image {
+        fault: ImageFault,
+    },
     /// The text or the source cannot be read, or whether the destination is held cannot be told.
-    ReadFault { name: TextArg },
+    ReadFault {
+        name: TextArg,
+    },
     /// The destination cannot be written.
     WriteFault,
     /// Want of memory.
@@ -58,6 +82,7 @@ impl Status {
             Status::Done => 0,
             Status::Exists => 3,
             Status::NotFound { .. } => 4,
+            Status::Source { .. } => 5,
             Status::Image { .. } => 8,
             Status::ReadFault { .. } => 10,
             Status::WriteFault => 11,

@@ -1,109 +1,106 @@
 //! Reads the tokens of a first text from the left.
 ghost use Rattle.std.specs.Prelude.{◌≡◌, ◌<◌, ◌∷◌, [], ◌++◌, ◌↔◌, length, IfOk, IfErr, MatchOption, OnOk, IsTrue};
-ghost use Rattle.std.specs.Option.{option_copied};
-ghost use Rattle.render_command.specs.FirstText.{factor_token, tree_tokens, IsFirstText, Says, OneTree};
-ghost use Rattle.render_command.specs.FirstReading.{Refuses, Splits, Takes, TakesOperator, headed, NoHead, NoFront, NoFactor};
+ghost use Rattle.ctl_tree.specs.Lexemes.{lexemes_of};
+ghost use Rattle.ctl_tree.specs.declared.sign.Sign.TheVariants.{CloseCurly};
+ghost use Rattle.render_command.specs.FirstText.{factor_part, tree_parts, Says, OneTree};
+ghost use Rattle.render_command.specs.FirstReading.{Refuses, Splits, Takes, TakesOperator, headed, parts_in, NoHead, NoFront, NoFactor};
 ghost use Rattle.render_command.specs.FirstReading.{IsProduct, IsSum, IsAssignment, NoProduct, NoSum, NoAssignment, NoTree};
 
+use super::part::{Part, part_of};
 use super::refusal::Refusal;
-use super::tokens::{Name, Symbol, Token, lex};
 use super::tree::{Assignment, Channel, Factor, FirstText, Operator, Product, Sum};
 use ctl_base::Memory;
-use fix_num::FRACTION;
+use ctl_tree::{Keyword, Sign, Token};
 use sqlite_items::Items;
 use std::alloc::Global;
 
-/// The tree of a first text, and None where the text is no first text.
-pub fn read_first_text(alloc: Global, text: &[u8]) -> Result<Option<FirstText>, Memory>
-    ensures { IfOk result (Says FRACTION text.now) }
+/// The tree that the tokens of a source say, and None where they are those of no first text.
+pub fn read_first_text(
+    alloc: Global,
+    source: &[u8],
+    tokens: &[Token],
+) -> Result<Option<FirstText>, Memory>
+    ensures { IfOk result (Says (lexemes_of source.now tokens.now)) }
 {
-    match read(alloc, text) {
+    match read_tree(alloc, source, tokens) {
         Ok(tree) => Ok(Some(tree)),
         Err(Refusal::OtherText) => Ok(None),
         Err(Refusal::NoMemory) => Err(Memory),
     }
 }
 
-/// A text says at most one tree.
+/// Tokens say at most one tree.
 pub fn one_tree()
-    ensures { OneTree FRACTION }
+    ensures { OneTree }
 {}
 
-fn read(alloc: Global, text: &[u8]) -> Result<FirstText, Refusal>
-    ensures tree { IfOk result (IsFirstText FRACTION text.now) }
-    ensures other { IfErr result (λ e. Refuses e (Says FRACTION text.now None)) }
-{
-    let tokens = lex(alloc, text)?;
-    read_tree(alloc, tokens.as_slice())
-}
-
 // `void main(..)` and the opening brace.
-const HEAD: [Token; 34] = [
-    Token::Word(Name::Void),
-    Token::Word(Name::Main),
-    Token::Sign(Symbol::OpenBracket),
-    Token::Word(Name::Input),
-    Token::Word(Name::Varying),
-    Token::Word(Name::Float),
-    Token::Word(Name::In(Channel::Red)),
-    Token::Sign(Symbol::Comma),
-    Token::Word(Name::Input),
-    Token::Word(Name::Varying),
-    Token::Word(Name::Float),
-    Token::Word(Name::In(Channel::Green)),
-    Token::Sign(Symbol::Comma),
-    Token::Word(Name::Input),
-    Token::Word(Name::Varying),
-    Token::Word(Name::Float),
-    Token::Word(Name::In(Channel::Blue)),
-    Token::Sign(Symbol::Comma),
-    Token::Word(Name::Output),
-    Token::Word(Name::Varying),
-    Token::Word(Name::Float),
-    Token::Word(Name::Out(Channel::Red)),
-    Token::Sign(Symbol::Comma),
-    Token::Word(Name::Output),
-    Token::Word(Name::Varying),
-    Token::Word(Name::Float),
-    Token::Word(Name::Out(Channel::Green)),
-    Token::Sign(Symbol::Comma),
-    Token::Word(Name::Output),
-    Token::Word(Name::Varying),
-    Token::Word(Name::Float),
-    Token::Word(Name::Out(Channel::Blue)),
-    Token::Sign(Symbol::CloseBracket),
-    Token::Sign(Symbol::OpenBrace),
+const HEAD: [Part; 34] = [
+    Part::Word(Keyword::Void),
+    Part::Main,
+    Part::Sign(Sign::OpenRound),
+    Part::Word(Keyword::Input),
+    Part::Word(Keyword::Varying),
+    Part::Word(Keyword::Float),
+    Part::Input(Channel::Red),
+    Part::Sign(Sign::Comma),
+    Part::Word(Keyword::Input),
+    Part::Word(Keyword::Varying),
+    Part::Word(Keyword::Float),
+    Part::Input(Channel::Green),
+    Part::Sign(Sign::Comma),
+    Part::Word(Keyword::Input),
+    Part::Word(Keyword::Varying),
+    Part::Word(Keyword::Float),
+    Part::Input(Channel::Blue),
+    Part::Sign(Sign::Comma),
+    Part::Word(Keyword::Output),
+    Part::Word(Keyword::Varying),
+    Part::Word(Keyword::Float),
+    Part::Output(Channel::Red),
+    Part::Sign(Sign::Comma),
+    Part::Word(Keyword::Output),
+    Part::Word(Keyword::Varying),
+    Part::Word(Keyword::Float),
+    Part::Output(Channel::Green),
+    Part::Sign(Sign::Comma),
+    Part::Word(Keyword::Output),
+    Part::Word(Keyword::Varying),
+    Part::Word(Keyword::Float),
+    Part::Output(Channel::Blue),
+    Part::Sign(Sign::CloseRound),
+    Part::Sign(Sign::OpenCurly),
 ];
 
-fn read_tree(alloc: Global, tokens: &[Token]) -> Result<FirstText, Refusal>
-    ensures tree { IfOk result (λ tree. tokens.now ≡ tree_tokens tree) }
-    ensures other { IfErr result (λ e. Refuses e (NoTree tokens.now)) }
+fn read_tree(alloc: Global, source: &[u8], tokens: &[Token]) -> Result<FirstText, Refusal>
+    ensures tree { IfOk result (λ tree. parts_in source.now tokens.now ≡ tree_parts tree) }
+    ensures other { IfErr result (λ e. Refuses e (NoTree (parts_in source.now tokens.now))) }
 {
-    let Some(mut rest) = after_head(tokens) else {
+    let Some(mut rest) = after_head(source, tokens) else {
         return Err(Refusal::OtherText);
     };
     let mut assignments = Items::new(alloc);
-    'each: while !is_end(rest) {
-        let assignment = read_assignment(alloc, &mut rest)?;
+    'each: while !is_end(source, rest) {
+        let assignment = read_assignment(alloc, source, &mut rest)?;
         assignments.push(assignment)?;
     }
     Ok(FirstText { assignments })
 }
 
 // What follows the head and its brace.
-fn after_head(tokens: &[Token]) -> Option<&[Token]>
-    ensures { MatchOption result (NoHead tokens.now) (λ rest. tokens.now ≡ headed rest.now) }
+fn after_head<'a>(source: &[u8], tokens: &'a [Token]) -> Option<&'a [Token]>
+    ensures { MatchOption result (NoHead (parts_in source.now tokens.now)) (λ rest. parts_in source.now tokens.now ≡ headed (parts_in source.now rest.now)) }
 {
-    after(tokens, &HEAD)
+    after(source, tokens, &HEAD)
 }
 
-// What follows the tokens at the front.
-fn after<'a>(tokens: &'a [Token], front: &[Token]) -> Option<&'a [Token]>
-    ensures { MatchOption result (NoFront front.now tokens.now) (λ rest. tokens.now ≡ front.now ++ rest.now) }
+// What follows the parts at the front.
+fn after<'a>(source: &[u8], tokens: &'a [Token], front: &[Part]) -> Option<&'a [Token]>
+    ensures { MatchOption result (NoFront front.now (parts_in source.now tokens.now)) (λ rest. parts_in source.now tokens.now ≡ front.now ++ parts_in source.now rest.now) }
 {
     let mut rest = tokens;
-    for token in front {
-        if !takes(&mut rest, token) {
+    for part in front {
+        if !takes(source, &mut rest, part) {
             return None;
         }
     }
@@ -111,27 +108,33 @@ fn after<'a>(tokens: &'a [Token], front: &[Token]) -> Option<&'a [Token]>
 }
 
 // Whether a closing brace is all that is left.
-fn is_end(tokens: &[Token]) -> bool
-    ensures { IsTrue result ↔ (tokens.now ≡ Token.Sign Symbol.CloseBrace ∷ []) }
+#[tactic(auto, unfolding(crate::specs::FirstParts::parts_of))]
+fn is_end(source: &[u8], tokens: &[Token]) -> bool
+    ensures { IsTrue result ↔ (parts_in source.now tokens.now ≡ Part.Sign CloseCurly ∷ []) }
 {
-    matches!(tokens, [Token::Sign(Symbol::CloseBrace)])
+    match tokens {
+        [token] => part_of(source, token) == Part::Sign(Sign::CloseCurly),
+        _ => false,
+    }
 }
 
-// Passes over the first token, if there is one.
-fn next<'a>(tokens: &mut &'a [Token]) -> Option<&'a Token>
-    ensures { Splits tokens.old.now (option_copied result) tokens.new.now }
+// Passes over the first token, if there is one, and tells what it is.
+#[tactic(auto, unfolding(crate::specs::FirstParts::parts_of))]
+fn next(source: &[u8], tokens: &mut &[Token]) -> Option<Part>
+    ensures { Splits (parts_in source.now tokens.old.now) result (parts_in source.now tokens.new.now) }
 {
     let (first, rest) = tokens.split_first()?;
     *tokens = rest;
-    Some(first)
+    Some(part_of(source, first))
 }
 
-// Passes over a token, if it stands next.
-fn takes(tokens: &mut &[Token], token: &Token) -> bool
-    ensures { Takes token.now tokens.old.now tokens.new.now result }
+// Passes over a part, if it stands next.
+#[tactic(auto, unfolding(crate::specs::FirstParts::parts_of))]
+fn takes(source: &[u8], tokens: &mut &[Token], part: &Part) -> bool
+    ensures { Takes part.now (parts_in source.now tokens.old.now) (parts_in source.now tokens.new.now) result }
 {
     match tokens.split_first() {
-        Some((first, rest)) if first == token => {
+        Some((first, rest)) if part_of(source, first) == *part => {
             *tokens = rest;
             true
         }
@@ -140,74 +143,76 @@ fn takes(tokens: &mut &[Token], token: &Token) -> bool
 }
 
 // Passes over an operator, if one stands next.
-fn takes_operator(tokens: &mut &[Token]) -> Option<Operator>
-    ensures { TakesOperator tokens.old.now tokens.new.now result }
+fn takes_operator(source: &[u8], tokens: &mut &[Token]) -> Option<Operator>
+    ensures { TakesOperator (parts_in source.now tokens.old.now) (parts_in source.now tokens.new.now) result }
 {
-    match tokens.split_first() {
-        Some((Token::Sign(Symbol::Plus), rest)) => {
-            *tokens = rest;
-            Some(Operator::Add)
-        }
-        Some((Token::Sign(Symbol::Minus), rest)) => {
-            *tokens = rest;
-            Some(Operator::Subtract)
-        }
-        _ => None,
+    if takes(source, tokens, &Part::Sign(Sign::Plus)) {
+        return Some(Operator::Add);
     }
+    if takes(source, tokens, &Part::Sign(Sign::Minus)) {
+        return Some(Operator::Subtract);
+    }
+    None
 }
 
-fn read_factor(tokens: &mut &[Token]) -> Result<Factor, Refusal>
-    ensures factor { IfOk result (λ f. tokens.old.now ≡ factor_token f ∷ tokens.new.now) }
-    ensures other { IfErr result (λ e. Refuses e (NoFactor tokens.old.now)) }
+fn read_factor(source: &[u8], tokens: &mut &[Token]) -> Result<Factor, Refusal>
+    ensures factor { IfOk result (λ f. parts_in source.now tokens.old.now ≡ factor_part f ∷ parts_in source.now tokens.new.now) }
+    ensures other { IfErr result (λ e. Refuses e (NoFactor (parts_in source.now tokens.old.now))) }
 {
-    match next(tokens) {
-        Some(Token::Word(Name::In(channel))) => Ok(Factor::Variable(*channel)),
-        Some(Token::Number(raw)) => Ok(Factor::Constant(*raw)),
+    let part = next(source, tokens);
+    match &part {
+        Some(Part::Input(channel)) => Ok(Factor::Variable(*channel)),
+        Some(Part::Number(raw)) => Ok(Factor::Constant(*raw)),
         _ => Err(Refusal::OtherText),
     }
 }
 
-fn read_product(alloc: Global, tokens: &mut &[Token]) -> Result<Product, Refusal>
-    ensures product { IfOk result (λ p. IsProduct tokens.old.now p tokens.new.now) }
-    ensures shorter { OnOk result (length tokens.new.now < length tokens.old.now) }
-    ensures other { IfErr result (λ e. Refuses e (NoProduct tokens.old.now)) }
+fn read_product(alloc: Global, source: &[u8], tokens: &mut &[Token]) -> Result<Product, Refusal>
+    ensures product { IfOk result (λ p. IsProduct (parts_in source.now tokens.old.now) p (parts_in source.now tokens.new.now)) }
+    ensures shorter { OnOk result (length (parts_in source.now tokens.new.now) < length (parts_in source.now tokens.old.now)) }
+    ensures other { IfErr result (λ e. Refuses e (NoProduct (parts_in source.now tokens.old.now))) }
 {
-    let first = read_factor(tokens)?;
+    let first = read_factor(source, tokens)?;
     let mut more = Items::new(alloc);
-    'each: while takes(tokens, &Token::Sign(Symbol::Star)) {
-        let factor = read_factor(tokens)?;
+    'each: while takes(source, tokens, &Part::Sign(Sign::Star)) {
+        let factor = read_factor(source, tokens)?;
         more.push(factor)?;
     }
     Ok(Product { first, more })
 }
 
-fn read_sum(alloc: Global, tokens: &mut &[Token]) -> Result<Sum, Refusal>
-    ensures sum { IfOk result (λ s. IsSum tokens.old.now s tokens.new.now) }
-    ensures shorter { OnOk result (length tokens.new.now < length tokens.old.now) }
-    ensures other { IfErr result (λ e. Refuses e (NoSum tokens.old.now)) }
+fn read_sum(alloc: Global, source: &[u8], tokens: &mut &[Token]) -> Result<Sum, Refusal>
+    ensures sum { IfOk result (λ s. IsSum (parts_in source.now tokens.old.now) s (parts_in source.now tokens.new.now)) }
+    ensures shorter { OnOk result (length (parts_in source.now tokens.new.now) < length (parts_in source.now tokens.old.now)) }
+    ensures other { IfErr result (λ e. Refuses e (NoSum (parts_in source.now tokens.old.now))) }
 {
-    let first = read_product(alloc, tokens)?;
+    let first = read_product(alloc, source, tokens)?;
     let mut more = Items::new(alloc);
-    'each: while let Some(operator) = takes_operator(tokens) {
-        let product = read_product(alloc, tokens)?;
+    'each: while let Some(operator) = takes_operator(source, tokens) {
+        let product = read_product(alloc, source, tokens)?;
         more.push((operator, product))?;
     }
     Ok(Sum { first, more })
 }
 
-fn read_assignment(alloc: Global, tokens: &mut &[Token]) -> Result<Assignment, Refusal>
-    ensures assignment { IfOk result (λ a. IsAssignment tokens.old.now a tokens.new.now) }
-    ensures shorter { OnOk result (length tokens.new.now < length tokens.old.now) }
-    ensures other { IfErr result (λ e. Refuses e (NoAssignment tokens.old.now)) }
+fn read_assignment(
+    alloc: Global,
+    source: &[u8],
+    tokens: &mut &[Token],
+) -> Result<Assignment, Refusal>
+    ensures assignment { IfOk result (λ a. IsAssignment (parts_in source.now tokens.old.now) a (parts_in source.now tokens.new.now)) }
+    ensures shorter { OnOk result (length (parts_in source.now tokens.new.now) < length (parts_in source.now tokens.old.now)) }
+    ensures other { IfErr result (λ e. Refuses e (NoAssignment (parts_in source.now tokens.old.now))) }
 {
-    let Some(Token::Word(Name::Out(output))) = next(tokens) else {
+    let part = next(source, tokens);
+    let Some(Part::Output(output)) = &part else {
         return Err(Refusal::OtherText);
     };
-    if !takes(tokens, &Token::Sign(Symbol::Equals)) {
+    if !takes(source, tokens, &Part::Sign(Sign::Assign)) {
         return Err(Refusal::OtherText);
     }
-    let value = read_sum(alloc, tokens)?;
-    if !takes(tokens, &Token::Sign(Symbol::Semicolon)) {
+    let value = read_sum(alloc, source, tokens)?;
+    if !takes(source, tokens, &Part::Sign(Sign::Semicolon)) {
         return Err(Refusal::OtherText);
     }
     Ok(Assignment {

@@ -2,6 +2,7 @@
 
 use super::{Colour, FirstText, one_tree, read_first_text};
 use ctl_base::Memory;
+use ctl_lexer::{LexFault, lex};
 use fix_num::Fix;
 use std::alloc::Global;
 
@@ -13,7 +14,7 @@ const HALF: &[u8] = b" { rOut = rIn * 0.5; gOut = gIn * 0.5; bOut = bIn * 0.5; }
 // The four tables below are what `python3 tools/first_text_cases.py` prints.
 
 // What follows the head, and the three outputs.
-const ACCEPTED: [(&[u8], [i64; 3]); 20] = [
+const ACCEPTED: [(&[u8], [i64; 3]); 25] = [
     (b" { }", [0, 0, 0]),
     (b" { rOut = rIn; }", [1259521201, 0, 0]),
     (b" { bOut = gIn; }", [0, 0, 2938882803]),
@@ -86,10 +87,18 @@ const ACCEPTED: [(&[u8], [i64; 3]); 20] = [
         b" { rOut = rIn * 0.5 ; gOut = gIn*0.5;bOut = bIn *0.5;}\r\n",
         [629760601, 1469441402, 1074791425],
     ),
+    (b" { rOut = rIn; /* half */ }", [1259521201, 0, 0]),
+    (b" { rOut = rIn // half\n; }", [1259521201, 0, 0]),
+    (b" // half\n { rOut = rIn; }", [1259521201, 0, 0]),
+    (b" { rOut = rIn; }\n// half", [1259521201, 0, 0]),
+    (
+        b" { rOut = rIn/* 0.5; */*/**/gIn; /* gOut = \n\xc3 */ }",
+        [861842464, 0, 0],
+    ),
 ];
 
 // Whole texts, and the three outputs.
-const ACCEPTED_WHOLE: [(&[u8], [i64; 3]); 2] = [
+const ACCEPTED_WHOLE: [(&[u8], [i64; 3]); 4] = [
     (
         b"void\nmain(input\nvarying\nfloat\nrIn,\ninput\nvarying\nfloat\ngIn,\ninput\nvarying\nfloat\nbIn,\noutput\nvarying\nfloat\nrOut,\noutput\nvarying\nfloat\ngOut,\noutput\nvarying\nfloat\nbOut){gOut=bIn;}",
         [0, 2149582850, 0],
@@ -98,10 +107,18 @@ const ACCEPTED_WHOLE: [(&[u8], [i64; 3]); 2] = [
         b"\n\t void main ( input varying float rIn ,  input varying float gIn ,  input varying float bIn ,  output varying float rOut ,  output varying float gOut ,  output varying float bOut ) { rOut = 0.5; }",
         [2147483648, 0, 0],
     ),
+    (
+        b"/* half */ void main(input varying float rIn, input varying float gIn, input varying float bIn, output varying float rOut, output varying float gOut, output varying float bOut) { }",
+        [0, 0, 0],
+    ),
+    (
+        b"void main( // in\ninput varying float rIn, input varying float gIn, input varying float bIn, output varying float rOut, output varying float gOut, output varying float bOut) { }",
+        [0, 0, 0],
+    ),
 ];
 
 // What follows the head, and why it makes no first text.
-const REFUSED: [(&[u8], &str); 57] = [
+const REFUSED: [(&[u8], &str); 54] = [
     (b" { rOut = rIn }", "no semicolon"),
     (b" { rOut rIn; }", "no ="),
     (b" { rOut = 0.5f; }", "f after a number"),
@@ -157,17 +174,8 @@ const REFUSED: [(&[u8], &str); 57] = [
         "an assignment after the end",
     ),
     (b" rOut = rIn; }", "no opening brace"),
-    (
-        b" { rOut = rIn; /* half */ }",
-        "a block comment in the body",
-    ),
-    (
-        b" { rOut = rIn // half\n; }",
-        "a line comment in an assignment",
-    ),
-    (b" // half\n { rOut = rIn; }", "a comment after the head"),
-    (b" { rOut = rIn; }\n// half", "a comment at the end"),
     (b" { rOut = rIn; } /*", "a comment that is not closed"),
+    (b" { rOut = rIn; // }", "a closing brace in a comment"),
     (b" { rOut = rIn; }\x00", "a byte 0"),
     (b" { rOut = rIn; }\x1f", "a byte 31"),
     (b" { rOut = rIn; \xc3 }", "a byte of 128 and more"),
@@ -177,18 +185,10 @@ const REFUSED: [(&[u8], &str); 57] = [
 ];
 
 // Whole texts, and why they are no first texts.
-const REFUSED_WHOLE: [(&[u8], &str); 17] = [
+const REFUSED_WHOLE: [(&[u8], &str); 15] = [
     (b"", "no text"),
     (b" \n\t", "blanks alone"),
     (b"{ rOut = rIn; }", "no head"),
-    (
-        b"/* half */ void main(input varying float rIn, input varying float gIn, input varying float bIn, output varying float rOut, output varying float gOut, output varying float bOut) { }",
-        "a comment before the head",
-    ),
-    (
-        b"void main( // in\ninput varying float rIn, input varying float gIn, input varying float bIn, output varying float rOut, output varying float gOut, output varying float bOut) { }",
-        "a comment in the head",
-    ),
     (
         b"voids main(input varying float rIn, input varying float gIn, input varying float bIn, output varying float rOut, output varying float gOut, output varying float bOut) { }",
         "a keyword that goes on",
@@ -239,11 +239,23 @@ const REFUSED_WHOLE: [(&[u8], &str); 17] = [
     ),
 ];
 
+// The tree that a text says, where tokens stand for it.
+fn read(alloc: Global, text: &[u8]) -> Result<Option<FirstText>, Memory> {
+    if text.len() > 1 << 24 {
+        return Err(Memory);
+    }
+    match lex(alloc, text) {
+        Ok(tokens) => read_first_text(alloc, text, tokens.as_slice()),
+        Err(LexFault::At { .. }) => Ok(None),
+        Err(LexFault::Memory) => Err(Memory),
+    }
+}
+
 // The tree of a text that begins with the head.
 fn read_body(alloc: Global, body: &[u8]) -> Result<Option<FirstText>, Memory> {
     let mut text = Vec::from_slice(alloc, HEAD)?;
     text.extend_from_slice(body)?;
-    read_first_text(alloc, text.as_slice())
+    read(alloc, text.as_slice())
 }
 
 // The outputs at codes 300, 700 and 512 of ten bits.
@@ -280,7 +292,7 @@ fn accepts(rt: HostRuntime) -> Result<(), Memory> {
         assert_eq!(rt; tree.as_ref().map(outputs), Some(expected));
     }
     for (text, expected) in ACCEPTED_WHOLE {
-        let tree = read_first_text(rt.alloc(), text)?;
+        let tree = read(rt.alloc(), text)?;
         assert_eq!(rt; tree.as_ref().map(outputs), Some(expected));
     }
     Ok(())
@@ -292,7 +304,7 @@ fn refuses(rt: HostRuntime) -> Result<(), Memory> {
         assert!(rt; read_body(rt.alloc(), body)?.is_none(), "{reason}");
     }
     for (text, reason) in REFUSED_WHOLE {
-        assert!(rt; read_first_text(rt.alloc(), text)?.is_none(), "{reason}");
+        assert!(rt; read(rt.alloc(), text)?.is_none(), "{reason}");
     }
     Ok(())
 }
@@ -315,7 +327,7 @@ fn refuses_what_is_cut_off(rt: HostRuntime) -> Result<(), Memory> {
     text.extend_from_slice(HALF)?;
     for end in 0..text.len() {
         let Some(front) = text.get(..end) else { break };
-        let tree = read_first_text(rt.alloc(), front)?;
+        let tree = read(rt.alloc(), front)?;
         assert_eq!(rt; tree.is_some(), front.ends_with(b"}"), "cut at {end}");
     }
     Ok(())
@@ -329,7 +341,7 @@ fn reads_a_long_text(rt: HostRuntime) -> Result<(), Memory> {
         text.extend_from_slice(b"+rIn*0.5")?;
     }
     text.extend_from_slice(b";gOut=gIn;}")?;
-    let tree = read_first_text(rt.alloc(), text.as_slice())?;
+    let tree = read(rt.alloc(), text.as_slice())?;
     assert_eq!(rt;
         tree.as_ref().map(outputs),
         Some([62976060100000, 2938882803, 0])

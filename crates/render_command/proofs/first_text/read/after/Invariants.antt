@@ -1,10 +1,11 @@
 use Rattle.std.proofs.Common.{◌≡◌, ◌++◌, List, drop}
-use Rattle.render_command.specs.declared.first_text.tokens.Token.{Token}
+use Rattle.render_command.specs.declared.first_text.part.Part.{Part}
+use Rattle.render_command.specs.FirstReading.{parts_in}
 use Rattle.render_command.proofs.first_text.read.after.Given as goal
 
 -- what follows the rest of the front follows the front
-abbrev pub invariant-loop-token : goal.invariant-loop-token
-invariant-loop-token l = record {
-  spelled : (more : List Token) → l.rest ≡ drop l.token-index l.front ++ more → l.tokens ≡ l.front ++ more;
-  only : (more : List Token) → l.tokens ≡ l.front ++ more → l.rest ≡ drop l.token-index l.front ++ more;
+abbrev pub invariant-loop-part : goal.invariant-loop-part
+invariant-loop-part l = record {
+  spelled : (more : List Part) → parts_in l.source l.rest ≡ drop l.part-index l.front ++ more → parts_in l.source l.tokens ≡ l.front ++ more;
+  only : (more : List Part) → parts_in l.source l.tokens ≡ l.front ++ more → parts_in l.source l.rest ≡ drop l.part-index l.front ++ more;
 }

@@ -1,8 +1,12 @@
-use Rattle.std.proofs.Common.{◌∷◌, ap, ◌∙◌}
+use Rattle.std.proofs.Common.{◌∷◌, Option, ap, ◌∙◌, subst}
+use Rattle.render_command.specs.declared.first_text.part.Part.{Part}
+use Rattle.render_command.specs.FirstReading.{Splits, parts_in}
 use Rattle.render_command.proofs.FirstRefusals.{assignment_ends}
 use Rattle.render_command.proofs.first_text.read.read_assignment.Goals as goal
 
 pub returns-then-not-takes-2-clause-other : goal.returns-then-not-takes-2-clause-other
 returns-then-not-takes-2-clause-other c = λ assignment rest h.
-    let e = c.in-Some-Word-Out.ensures ∙ ap (λ ts. c.in-Some-Word-Out.field-0.now ∷ ts) c.if-not-takes.ensures in
-    c.if-not-takes-2.ensures.1 rest (assignment_ends c.args.tokens.now.now c.takes.new.tokens.now c.in-Some-Word-Out.field-0.now assignment c.in_ok-value.value c.read_sum.new.tokens.now rest e c.in_ok-value.ensures.sum h)
+    let P : Option Part → Type 0 = λ part. Splits (parts_in c.args.source.now c.args.tokens.now.now) part (parts_in c.args.source.now c.next-part.new.tokens.now) in
+    let output = subst P c.in-Some-Output.is c.next-part.ensures in
+    let e = output ∙ ap (λ ts. c.in-Some-Output.field-0 ∷ ts) c.if-not-takes.ensures in
+    c.if-not-takes-2.ensures.1 rest (assignment_ends (parts_in c.args.source.now c.args.tokens.now.now) (parts_in c.args.source.now c.takes.new.tokens.now) c.in-Some-Output.field-0 assignment c.in_ok-value.value (parts_in c.args.source.now c.read_sum.new.tokens.now) rest e c.in_ok-value.ensures.sum h)

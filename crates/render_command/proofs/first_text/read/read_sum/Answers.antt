@@ -1,22 +1,23 @@
 use Rattle.std.proofs.Common.{◌≡◌, [], ◌∷◌, ◌++◌, List, length, arith, sym, ap, ◌∙◌, append_assoc, append-nil, subst}
 use Rattle.render_command.specs.declared.first_text.tree.Operator.{Operator}
 use Rattle.render_command.specs.declared.first_text.tree.Product.{Product}
-use Rattle.render_command.specs.FirstText.{operator_token, product_tokens, term_tokens}
+use Rattle.render_command.specs.FirstText.{operator_part, product_parts, term_parts}
 use Rattle.render_command.proofs.FirstSpellings.{sum_product, same_product, first_term}
 use Rattle.render_command.proofs.FirstRefusals.{passed_on, operator_goes_on}
+use Rattle.render_command.specs.FirstReading.{parts_in}
 use Rattle.render_command.proofs.first_text.read.read_sum.Goals as goal
 
 pub returns-in_err-first-clause-other : goal.returns-in_err-first-clause-other
 returns-in_err-first-clause-other c = passed_on c.from_residual.result c.in_err-first.field-0.0 c.from_residual.ensures.1 c.in_err-first.ensures.other
-    (λ none sum rest h. none sum.first (term_tokens sum.more ++ rest) (sum_product c.args.tokens.now.now sum rest h))
+    (λ none sum rest h. none sum.first (term_parts sum.more ++ rest) (sum_product (parts_in c.args.source.now c.args.tokens.now.now) sum rest h))
 
 pub each-init : goal.each-init
 each-init c =
     let product = c.in_ok-first.ensures.product in
     record {
-      spelled = λ terms rest e. product.0 ∙ ap (λ ts. product_tokens c.in_ok-first.first ++ ts) (rw c.new-more.ensures e);
+      spelled = λ terms rest e. product.0 ∙ ap (λ ts. product_parts c.in_ok-first.first ++ ts) (rw c.new-more.ensures e);
       only = λ sum rest h.
-          let same = same_product c.args.tokens.now.now c.in_ok-first.first sum.first c.read_product.new.tokens.now (term_tokens sum.more ++ rest) product (sum_product c.args.tokens.now.now sum rest h) in
+          let same = same_product (parts_in c.args.source.now c.args.tokens.now.now) c.in_ok-first.first sum.first (parts_in c.args.source.now c.read_product.new.tokens.now) (term_parts sum.more ++ rest) product (sum_product (parts_in c.args.source.now c.args.tokens.now.now) sum rest h) in
           (sum.more, same.1, h.1, h.2);
       no_star = product.1;
       shorter = c.in_ok-first.ensures.shorter;
@@ -26,8 +27,8 @@ pub returns-in_err-product-clause-other : goal.returns-in_err-product-clause-oth
 returns-in_err-product-clause-other c = passed_on c.from_residual-in_err-product.result c.in_err-product.field-0.0 c.from_residual-in_err-product.ensures.1 c.in_err-product.ensures.other
     (λ none sum rest h.
     let o = c.each.invariant.only sum rest h in
-    let g = operator_goes_on o.0 c.in-Some.operator c.each.tokens.now c.takes_operator.new.tokens.now rest c.in-Some.ensures o.1 o.2 o.3 in
-    none g.0 (term_tokens g.1 ++ rest) g.2)
+    let g = operator_goes_on o.0 c.in-Some.operator (parts_in c.args.source.now c.each.tokens.now) (parts_in c.args.source.now c.takes_operator.new.tokens.now) rest c.in-Some.ensures o.1 o.2 o.3 in
+    none g.0 (term_parts g.1 ++ rest) g.2)
 
 pub each-preserved : goal.each-preserved
 each-preserved c =
@@ -35,13 +36,13 @@ each-preserved c =
     let product = c.in_ok-product.ensures.product in
     record {
       spelled = λ terms rest e.
-          let f : c.each.tokens.now ≡ term_tokens ((c.in-Some.operator, c.in_ok-product.product) ∷ terms) ++ rest =
-          sign ∙ ap (λ ts. operator_token c.in-Some.operator ∷ ts) (product.0 ∙ ap (λ ts. product_tokens c.in_ok-product.product ++ ts) e) ∙ sym (first_term (c.in-Some.operator, c.in_ok-product.product) terms rest) in
+          let f : parts_in c.args.source.now c.each.tokens.now ≡ term_parts ((c.in-Some.operator, c.in_ok-product.product) ∷ terms) ++ rest =
+          sign ∙ ap (λ ts. operator_part c.in-Some.operator ∷ ts) (product.0 ∙ ap (λ ts. product_parts c.in_ok-product.product ++ ts) e) ∙ sym (first_term (c.in-Some.operator, c.in_ok-product.product) terms rest) in
           rw (c.in_ok-push.ensures.ok, append_assoc) (c.each.invariant.spelled ((c.in-Some.operator, c.in_ok-product.product) ∷ terms) rest f);
       only = λ sum rest h.
           let o = c.each.invariant.only sum rest h in
-          let g = operator_goes_on o.0 c.in-Some.operator c.each.tokens.now c.takes_operator.new.tokens.now rest sign o.1 o.2 o.3 in
-          let same = same_product c.takes_operator.new.tokens.now c.in_ok-product.product g.0 c.read_product-in-Some.new.tokens.now (term_tokens g.1 ++ rest) product g.2 in
+          let g = operator_goes_on o.0 c.in-Some.operator (parts_in c.args.source.now c.each.tokens.now) (parts_in c.args.source.now c.takes_operator.new.tokens.now) rest sign o.1 o.2 o.3 in
+          let same = same_product (parts_in c.args.source.now c.takes_operator.new.tokens.now) c.in_ok-product.product g.0 (parts_in c.args.source.now c.read_product-in-Some.new.tokens.now) (term_parts g.1 ++ rest) product g.2 in
           (g.1, same.1, o.2, o.3);
       no_star = product.1;
       shorter = omega (arith, c.each.invariant.shorter, ap length sign, c.in_ok-product.ensures.shorter);
@@ -50,10 +51,10 @@ each-preserved c =
 pub returns-clause-sum : goal.returns-clause-sum
 returns-clause-sum c =
     let stays = c.in_default.ensures in
-    let rest = c.takes_operator.new.tokens.now in
-    let P : List (Operator × Product) → Type 0 = λ terms. c.args.tokens.now.now ≡ product_tokens c.in_ok-first.first ++ (term_tokens terms ++ rest) in
+    let rest = (parts_in c.args.source.now c.takes_operator.new.tokens.now) in
+    let P : List (Operator × Product) → Type 0 = λ terms. parts_in c.args.source.now c.args.tokens.now.now ≡ product_parts c.in_ok-first.first ++ (term_parts terms ++ rest) in
     let e = subst P (append-nil c.each.more) (c.each.invariant.spelled [] rest (sym stays.0)) in (
-      e ∙ sym (append_assoc (product_tokens c.in_ok-first.first) (term_tokens c.each.more) rest),
+      e ∙ sym (append_assoc (product_parts c.in_ok-first.first) (term_parts c.each.more) rest),
       λ after e. c.each.invariant.no_star after (sym stays.0 ∙ e),
       λ operator after e. stays.1 operator after (sym stays.0 ∙ e),
     )

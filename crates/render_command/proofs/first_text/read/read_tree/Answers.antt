@@ -1,8 +1,8 @@
 use Rattle.std.proofs.Common.{◌≡◌, [], ◌∷◌, ◌++◌, List, sym, ap, ◌∙◌, append_assoc, append-nil, subst}
 use Rattle.std.proofs.lemmas.Bool.{false≢true}
 use Rattle.render_command.specs.declared.first_text.tree.Assignment.{Assignment}
-use Rattle.render_command.specs.FirstText.{assignment_tokens}
-use Rattle.render_command.specs.FirstReading.{headed}
+use Rattle.render_command.specs.FirstText.{assignment_parts}
+use Rattle.render_command.specs.FirstReading.{parts_in, headed}
 use Rattle.render_command.proofs.FirstSpellings.{body, first_assignment, same_assignment, same_headed}
 use Rattle.render_command.proofs.FirstRefusals.{passed_on, body_goes_on}
 use Rattle.render_command.proofs.first_text.read.read_tree.Goals as goal
@@ -10,14 +10,14 @@ use Rattle.render_command.proofs.first_text.read.read_tree.Goals as goal
 pub each-init : goal.each-init
 each-init c = record {
   spelled = λ more e. rw c.new-assignments.ensures (c.in-Some.ensures ∙ ap headed e);
-  only = λ tree e. (tree.assignments, same_headed c.in-Some.rest.now (body tree.assignments) (sym c.in-Some.ensures ∙ e));
+  only = λ tree e. (tree.assignments, same_headed (parts_in c.args.source.now c.in-Some.rest.now) (body tree.assignments) (sym c.in-Some.ensures ∙ e));
 }
 
 pub returns-in_err-assignment-clause-other : goal.returns-in_err-assignment-clause-other
 returns-in_err-assignment-clause-other c = passed_on c.from_residual.result c.in_err-assignment.field-0.0 c.from_residual.ensures.1 c.in_err-assignment.ensures.other
     (λ none tree e.
     let o = c.each.invariant.only tree e in
-    let g = body_goes_on o.0 c.each.rest.now o.1 (λ end. false≢true (sym c.each-test.true ∙ c.is_end.ensures.1 end)) in
+    let g = body_goes_on o.0 (parts_in c.args.source.now c.each.rest.now) o.1 (λ end. false≢true (sym c.each-test.true ∙ c.is_end.ensures.1 end)) in
     none g.0 (body g.1) g.2)
 
 pub each-preserved : goal.each-preserved
@@ -25,15 +25,15 @@ each-preserved c =
     let assignment = c.in_ok-assignment.ensures.assignment in
     record {
       spelled = λ more e.
-          let f : c.each.rest.now ≡ body (c.in_ok-assignment.assignment ∷ more) = assignment ∙ ap (λ ts. assignment_tokens c.in_ok-assignment.assignment ++ ts) e ∙ sym (first_assignment c.in_ok-assignment.assignment more) in
+          let f : parts_in c.args.source.now c.each.rest.now ≡ body (c.in_ok-assignment.assignment ∷ more) = assignment ∙ ap (λ ts. assignment_parts c.in_ok-assignment.assignment ++ ts) e ∙ sym (first_assignment c.in_ok-assignment.assignment more) in
           rw (c.in_ok-push.ensures.ok, append_assoc) (c.each.invariant.spelled (c.in_ok-assignment.assignment ∷ more) f);
       only = λ tree e.
           let o = c.each.invariant.only tree e in
-          let g = body_goes_on o.0 c.each.rest.now o.1 (λ end. false≢true (sym c.each-test.true ∙ c.is_end.ensures.1 end)) in
-          (g.1, (same_assignment c.each.rest.now c.in_ok-assignment.assignment g.0 c.read_assignment.new.tokens.now (body g.1) assignment g.2).1);
+          let g = body_goes_on o.0 (parts_in c.args.source.now c.each.rest.now) o.1 (λ end. false≢true (sym c.each-test.true ∙ c.is_end.ensures.1 end)) in
+          (g.1, (same_assignment (parts_in c.args.source.now c.each.rest.now) c.in_ok-assignment.assignment g.0 (parts_in c.args.source.now c.read_assignment.new.tokens.now) (body g.1) assignment g.2).1);
     }
 
 pub returns-clause-tree : goal.returns-clause-tree
 returns-clause-tree c =
-    let P : List Assignment → Type 0 = λ assignments. c.args.tokens.now ≡ headed (body assignments) in
+    let P : List Assignment → Type 0 = λ assignments. parts_in c.args.source.now c.args.tokens.now ≡ headed (body assignments) in
     subst P (append-nil c.each.assignments) (c.each.invariant.spelled [] (c.is_end.ensures.0 c.each-test.false))
