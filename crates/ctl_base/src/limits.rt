@@ -1,5 +1,7 @@
 //! The limits of the project. What is met above each is said by the call that tests it.
 
+ghost use Rattle.ctl_base.specs.Limits.{LimitsStand};
+
 /// The most bytes of a source text.
 pub const TEXT_BYTES: u64 = 1 << 24;
 
@@ -44,3 +46,8 @@ pub const PARTS: u32 = 1 << 27;
 
 /// The loop turns that a pixel has for the whole chain, and that a constant or default has for itself.
 pub const TURNS: u32 = 1_000_000;
+
+/// Each limit is its number.
+pub fn limits_stand()
+    ensures { LimitsStand }
+{}
