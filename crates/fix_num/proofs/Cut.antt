@@ -10,7 +10,7 @@ use Rattle.std.proofs.Math.Seq.{take-append_seam, drop-append_seam, take-length}
 use Rattle.std.specs.List.{prefix_len}
 use Rattle.std.specs.Char.{is_ascii_digit}
 use Rattle.fix_num.specs.Decimal.{IsDigit, Decimal, Spells, SpellsSign, SpellsPower, SpellsExponent, signed, number, number_from, digits_of, exponent_or_zero}
-use Rattle.fix_num.specs.Scan.{is_negative, after_sign, digits_in_front, after_digits, after_point, Says}
+use Rattle.fix_num.specs.Cutting.{is_negative, after_sign, digits_in_front, after_digits, after_point, Says}
 use Rattle.std.proofs.lemmas.Int.{ints}
 use Rattle.fix_num.proofs.Number.{few_small, number_joined}
 

@@ -32,11 +32,11 @@ pub floor_rest : (n : ℤ) (d : ℕ) → 0 < d → (int_div_euclid n (pos d) *�
 floor_rest (pos a) d h = let f : d * (a / d) + a % d ≡ a = omega arith in omega (arith, ints, f)
 floor_rest (negsuc a) d h = let f : d * (a / d) + a % d ≡ a = omega arith in let g : a % d < d = omega arith in omega (arith, ints, f, g)
 
-rest_bounds : (n : ℤ) (d : ℕ) → 0 < d → (pos 0 ≤ℤ int_rem_euclid n (pos d)) × (int_rem_euclid n (pos d) <ℤ pos d)
+pub rest_bounds : (n : ℤ) (d : ℕ) → 0 < d → (pos 0 ≤ℤ int_rem_euclid n (pos d)) × (int_rem_euclid n (pos d) <ℤ pos d)
 rest_bounds (pos a) d h = let g : a % d < d = omega arith in (omega (arith, ints), omega (arith, ints, g))
 rest_bounds (negsuc a) d h = let g : a % d < d = omega arith in (omega (arith, ints, g), omega (arith, ints, g))
 
-one_more : (q d : ℤ) → ((q +ℤ pos 1) *ℤ d) ≡ (q *ℤ d +ℤ d)
+pub one_more : (q d : ℤ) → ((q +ℤ pos 1) *ℤ d) ≡ (q *ℤ d +ℤ d)
 one_more q d = ap (λ (x : ℤ). x *ℤ d) (+ℤ_one q) ∙ suc_ℤ-*ℤ q d
 
 -- the number that is nearest

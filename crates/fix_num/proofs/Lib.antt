@@ -1,10 +1,12 @@
 -- The lemmas of this crate.
-pub mod Choice
-pub mod Cut
-pub mod Floor
-pub mod Near
-pub mod Number
-pub mod Power
-pub mod Returns
-pub mod Squares
-pub mod Words
+mod Bounds
+mod Choice
+mod Cut
+mod Floor
+mod InRange
+mod Near
+mod Number
+mod Power
+mod Returns
+mod Squares
+mod Words

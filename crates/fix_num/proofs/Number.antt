@@ -1,10 +1,10 @@
 -- The numbers that digits spell.
-use Rattle.std.proofs.Common.{◌≡◌, ℕ, suc, inl, inr, ◌+◌, ◌-◌, ◌*◌, ◌^◌, ◌<◌, ◌≤◌, Bool, true, false, ◌==◌, List, [], ◌∷◌, ◌++◌, length, take, drop, All, refl, ap, sym, arith}
+use Rattle.std.proofs.Common.{◌≡◌, ℕ, suc, inl, inr, ◌+◌, ◌-◌, ◌*◌, ◌^◌, ◌<◌, ◌≤◌, Bool, true, false, ◌==◌, List, [], ◌∷◌, ◌++◌, length, take, drop, All, refl, sym, subst, arith}
 use Rattle.std.proofs.Math.Nat.{pow-succ', mul-le-mul_right}
 use Rattle.std.proofs.lemmas.Bool.{eqb-true, eqb-false, cases_lt}
 use Rattle.std.proofs.lemmas.List.{take-append-drop}
 use Rattle.std.proofs.lemmas.List.Sums.{fold-append}
-use Rattle.fix_num.specs.Decimal.{IsDigit, number_from, number, significant}
+use Rattle.fix_num.specs.Decimal.{IsDigit, number_from, number, significant, DigitsGrow}
 use Rattle.fix_num.proofs.Power.{ten_some, ten_mono}
 
 tail_digits : (b : ℕ) (digits : List ℕ) → All IsDigit (b ∷ digits) → All IsDigit digits
@@ -15,12 +15,14 @@ pub number_grows : (n : ℕ) (digits : List ℕ) → n ≤ number_from n digits
 number_grows n [] = omega arith
 number_grows n (b ∷ digits) = let h : 10 * n + (b - 48) ≤ number_from (10 * n + (b - 48)) digits = number_grows (10 * n + (b - 48)) digits in omega arith
 
-pub number_part : (n i : ℕ) (digits : List ℕ) → number_from n (take i digits) ≤ number_from n digits
-number_part n i digits =
-    let h : number_from n (take i digits) ≤ number_from (number_from n (take i digits)) (drop i digits) = number_grows (number_from n (take i digits)) (drop i digits) in
-    let e : number_from n (take i digits ++ drop i digits) ≡ number_from (number_from n (take i digits)) (drop i digits) = fold-append (λ (m : ℕ) (b : ℕ). 10 * m + (b - 48)) n (take i digits) (drop i digits) in
-    let t : number_from n (take i digits ++ drop i digits) ≡ number_from n digits = ap (number_from n) (take-append-drop i digits) in
+pub digits_law : DigitsGrow
+digits_law n digits more =
+    let h : number_from n digits ≤ number_from (number_from n digits) more = number_grows (number_from n digits) more in
+    let e : number_from n (digits ++ more) ≡ number_from (number_from n digits) more = fold-append (λ (m : ℕ) (b : ℕ). 10 * m + (b - 48)) n digits more in
     omega arith
+
+pub number_part : (n i : ℕ) (digits : List ℕ) → number_from n (take i digits) ≤ number_from n digits
+number_part n i digits = subst (λ (x : List ℕ). number_from n (take i digits) ≤ number_from n x) (take-append-drop i digits) (digits_law n (take i digits) (drop i digits))
 
 pub number_joined : (a b : List ℕ) → number_from (number a) b ≡ number (a ++ b)
 number_joined a b = sym (fold-append (λ (m : ℕ) (b : ℕ). 10 * m + (b - 48)) 0 a b)

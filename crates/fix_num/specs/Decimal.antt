@@ -74,6 +74,10 @@ pub record Spells (text : List ℕ) (d : Decimal) : Type 0 where
 abbrev pub SpellsOnce : Type 0
 SpellsOnce = (text : List ℕ) (d e : Decimal) → Spells text d → Spells text e → d ≡ e
 
+-- more digits make no number less
+abbrev pub DigitsGrow : Type 0
+DigitsGrow = (n : ℕ) (digits more : List ℕ) → number_from n digits ≤ number_from n (digits ++ more)
+
 -- how many digits there are from the first that is not 0
 abbrev pub significant : List ℕ → ℕ
 significant [] = 0

@@ -1,7 +1,8 @@
--- Whole numbers of 32 bits: an int is from -2^31 to 2^31 - 1, an unsigned from 0 to 2^32 - 1.
-use Rattle.std.specs.Prelude.{ℕ, ℤ, pos, ◌+ℤ◌, ◌-ℤ◌, ◌*ℤ◌, ◌≤ℤ◌, ◌<ℤ◌, neg_ℤ, ◌^◌, ◌%◌, Bool, true, false, if◌then◌else◌, ◌==◌, int_lt, int_div, int_rem, unsigned_abs, bit_and, bit_or, bit_xor}
+-- Whole numbers of 32 bits: an int is from -2^31 to 2^31 - 1, an unsigned from 0 to 2^32 - 1. Conversions between the kinds of number.
+use Rattle.std.specs.Prelude.{ℕ, ℤ, pos, ◌+ℤ◌, ◌-ℤ◌, ◌*ℤ◌, ◌≤ℤ◌, ◌<ℤ◌, neg_ℤ, ◌^◌, ◌%◌, Bool, true, false, if◌then◌else◌, ◌==◌, int_lt, nat_lt, int_div, int_rem, unsigned_abs, bit_and, bit_or, bit_xor}
 use Rattle.std.specs.Int.{int_wrap, w32, int_div_euclid, int_rem_euclid}
 use Rattle.fix_num.specs.Fixed.{one, sat}
+use Rattle.fix_num.specs.Half.{half}
 use Rattle.fix_num.specs.declared.integers.WholeOp.{WholeOp}
 use Rattle.fix_num.specs.declared.integers.WholeOp.TheVariants.{Add, Sub, Mul, Div, Rem, And, Or, Xor, Shl, Shr}
 
@@ -48,6 +49,10 @@ whole Shr signed a b = int_div_euclid a (pos (2 ^ (word b % 32)))
 abbrev pub from_whole : ℕ → ℤ → ℤ
 from_whole F n = sat (n *ℤ one F)
 
+-- the raw of the half of a whole number
+abbrev pub half_from_whole : ℕ → ℤ → ℤ
+half_from_whole F n = half F (from_whole F n)
+
 -- the int of a raw, toward zero
 abbrev pub to_int : ℕ → ℤ → ℤ
 to_int F r = int_div r (one F)
@@ -55,3 +60,12 @@ to_int F r = int_div r (one F)
 -- the unsigned of a raw, toward zero, and 0 where it is negative
 abbrev pub to_unsigned : ℕ → ℤ → ℤ
 to_unsigned F r = if int_lt r (pos 0) then pos 0 else int_div r (one F)
+
+-- whether a number, whole or a raw, is not 0
+abbrev pub truth : ℤ → Bool
+truth z = nat_lt 0 (unsigned_abs z)
+
+-- a bool as a whole number
+abbrev pub of_bool : Bool → ℤ
+of_bool true = pos 1
+of_bool false = pos 0

@@ -2,22 +2,19 @@
 
 ghost use Rattle.std.specs.Prelude.{◌≡◌, ℕ, ℤ, pos, ◌*ℤ◌, ◌≤ℤ◌, ◌^◌, ◌*◌, ◌≤◌, unsigned_abs};
 ghost use Rattle.fix_num.specs.Fixed.{rnd, sat};
-ghost use Rattle.fix_num.specs.Decimal.{Reads, nearest, SpellsOnce};
+ghost use Rattle.fix_num.specs.Decimal.{Reads, nearest, SpellsOnce, DigitsGrow};
 
 use crate::fix::{Fix, saturated};
 use crate::rounding::rnd;
 use crate::spelling::{number_of, split_parts};
 use crate::{FRACTION, ONE};
-use thiserror::Error;
 
 /// Why a text gives no number.
-#[derive(Debug, Drop, Error)]
+#[derive(Debug, Drop)]
 pub enum LiteralFault {
     /// The text is not the spelling of a decimal number.
-    #[error("not a decimal number")]
     NotANumber,
     /// There are more significant digits than are read.
-    #[error("more than 25 significant digits")]
     TooManyDigits,
 }
 
@@ -45,6 +42,11 @@ pub fn read_decimal(text: &[u8]) -> Result<Fix, LiteralFault>
 /// The law that a text spells at most one number.
 pub fn spells_once()
     ensures { SpellsOnce }
+{}
+
+/// The law that more digits make no number less.
+pub fn digits_grow()
+    ensures { DigitsGrow }
 {}
 
 // n * 10^power, rounded and saturated.

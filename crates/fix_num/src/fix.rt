@@ -1,7 +1,7 @@
 //! The number type and its arithmetic.
 
 ghost use Rattle.std.specs.Prelude.{◌≡◌, ℤ, pos, ◌*◌, ◌+◌, ◌^◌, ◌<◌};
-ghost use Rattle.fix_num.specs.Fixed.{IsRaw, sat, fix_neg, fix_add, fix_sub, fix_mul, fix_div, fix_floor, fix_times};
+ghost use Rattle.fix_num.specs.Fixed.{IsRaw, sat, one, fix_neg, fix_abs, fix_add, fix_sub, fix_mul, fix_div, fix_floor, fix_times, SaturationClamps};
 
 use crate::rounding::{rnd, rnd_shift};
 use crate::{FRACTION, MAX_RAW, ONE};
@@ -39,7 +39,15 @@ pub fn saturated(n: i128) -> Fix
     }
 }
 
+/// The law that pins saturation.
+pub fn saturation_clamps()
+    ensures { SaturationClamps }
+{}
+
 impl Fix {
+    /// 1.0.
+    pub const ONE: Fix = Fix { raw: 1 << FRACTION };
+
     /// The number `raw / 2^FRACTION`.
     pub fn from_raw(raw: i64) -> Fix
         requires { IsRaw raw }
@@ -88,6 +96,15 @@ impl Fix {
         ensures { result ≡ fix_neg self }
     {
         Fix { raw: -self.raw }
+    }
+
+    /// The size of the number.
+    pub fn abs(self) -> Fix
+        ensures { result ≡ fix_abs self }
+    {
+        Fix {
+            raw: self.raw.abs(),
+        }
     }
 
     /// The quotient, rounded. Where the divisor is negative, both signs are changed before.

@@ -1,7 +1,7 @@
-//! Whole numbers of 32 bits, and their conversion to and from numbers with a fraction.
+//! Whole numbers of 32 bits, and conversions between the kinds of number.
 
 ghost use Rattle.std.specs.Prelude.{◌≡◌, ℤ, pos, true, false};
-ghost use Rattle.fix_num.specs.Whole.{IsWhole, whole, from_whole, to_int, to_unsigned};
+ghost use Rattle.fix_num.specs.Whole.{IsWhole, whole, as_int, as_unsigned, from_whole, half_from_whole, to_int, to_unsigned, truth, of_bool};
 
 use crate::fix::{Fix, saturated};
 use crate::{FRACTION, ONE, ONE_64};
@@ -72,6 +72,34 @@ fn whole_unsigned(op: WholeOp, a: u32, b: u32) -> u32
     }
 }
 
+/// The int that differs from an unsigned by a multiple of 2^32.
+pub fn as_int(n: u32) -> i32
+    ensures { result ≡ as_int (pos n) }
+{
+    n.cast_signed()
+}
+
+/// The unsigned that differs from an int by a multiple of 2^32.
+pub fn as_unsigned(n: i32) -> u32
+    ensures { pos result ≡ as_unsigned n }
+{
+    n.cast_unsigned()
+}
+
+/// Whether a whole number, or the raw of a number, is not 0.
+pub fn truth(number: i64) -> bool
+    ensures { result ≡ truth number }
+{
+    number != 0
+}
+
+/// 1 for true and 0 for false.
+pub fn of_bool(b: bool) -> i64
+    ensures { result ≡ of_bool b }
+{
+    if b { 1 } else { 0 }
+}
+
 impl Fix {
     /// The whole number toward zero.
     pub fn to_i32(self) -> i32
@@ -103,5 +131,33 @@ impl Fix {
         ensures { result ≡ from_whole FRACTION (pos n) }
     {
         saturated(n as i128 * ONE)
+    }
+
+    /// The half of an int.
+    pub fn half_from_i32(n: i32) -> Fix
+        ensures { result ≡ half_from_whole FRACTION n }
+    {
+        Fix::from_i32(n).to_half()
+    }
+
+    /// The half of an unsigned.
+    pub fn half_from_u32(n: u32) -> Fix
+        ensures { result ≡ half_from_whole FRACTION (pos n) }
+    {
+        Fix::from_u32(n).to_half()
+    }
+
+    /// Whether the number is not 0.
+    pub fn truth(self) -> bool
+        ensures { result ≡ truth self }
+    {
+        truth(self.raw())
+    }
+
+    /// 1.0 for true and 0.0 for false.
+    pub fn from_bool(b: bool) -> Fix
+        ensures { result ≡ from_whole FRACTION (of_bool b) }
+    {
+        Fix::from_i32(if b { 1 } else { 0 })
     }
 }

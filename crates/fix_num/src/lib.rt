@@ -7,12 +7,15 @@
 
 pub use codes::codes_return;
 pub use constants::{HALF_PI, LN_2, LOG2_E, LOG2_TEN, LOG10_2, TWO_OVER_PI};
-pub use decimal::{LiteralFault, read_decimal, spells_once};
-pub use fix::{Fix, saturated};
+pub use decimal::{LiteralFault, digits_grow, read_decimal, spells_once};
+pub use fix::{Fix, saturated, saturation_clamps};
 pub use halves::{half_grows, half_is_nearest, half_keeps};
-pub use integers::{WholeOp, whole};
+pub use integers::{WholeOp, as_int, as_unsigned, of_bool, truth, whole};
+pub use ranges::{
+    arithmetic_stays_in_range, codes_stay_in_range, halves_stay_in_range, wholes_stay_in_range,
+};
 pub use roots::{isqrt, root_is_floor};
-pub use rounding::{rnd, rnd_shift};
+pub use rounding::{floor_is_greatest, rnd, rnd_shift, rounding_is_nearest, rounding_keeps_bounds};
 
 mod codes;
 mod constants;
@@ -20,6 +23,7 @@ mod decimal;
 mod fix;
 mod halves;
 mod integers;
+mod ranges;
 mod roots;
 mod rounding;
 mod spelling;

@@ -1,7 +1,7 @@
 //! Rounding to the nearest whole number.
 
 ghost use Rattle.std.specs.Prelude.{◌≡◌, ℕ, ℤ, pos, ◌+ℤ◌, ◌-ℤ◌, ◌*ℤ◌, ◌<ℤ◌, ◌≤ℤ◌, ◌^◌, ◌*◌, ◌+◌, ◌<◌, ◌≤◌, unsigned_abs};
-ghost use Rattle.fix_num.specs.Fixed.{rnd};
+ghost use Rattle.fix_num.specs.Fixed.{rnd, FloorIsGreatest, RoundingIsNearest, RoundingKeepsBounds};
 
 /// `n / d` rounded to the nearest whole number. Of two that are equally near, the greater.
 pub fn rnd(n: i128, d: i128) -> i128
@@ -48,3 +48,18 @@ pub(crate) fn rnd_natural(n: u64, d: u64) -> u64
 {
     (2 * n + d) / (2 * d)
 }
+
+/// The law that pins floor division.
+pub fn floor_is_greatest()
+    ensures { FloorIsGreatest }
+{}
+
+/// The law that pins rounding.
+pub fn rounding_is_nearest()
+    ensures { RoundingIsNearest }
+{}
+
+/// The law that rounding keeps between whole numbers.
+pub fn rounding_keeps_bounds()
+    ensures { RoundingKeepsBounds }
+{}

@@ -4,7 +4,7 @@ ghost use Rattle.std.specs.Prelude.{◌≡◌, ℕ, ℤ, ◌^◌, ◌<◌, ◌�
 ghost use Rattle.std.specs.Char.{is_ascii_digit};
 ghost use Rattle.std.specs.List.{take_while};
 ghost use Rattle.fix_num.specs.Decimal.{Decimal, Spells, SpellsExponent, SpellsPower, exponent_or_zero, IsDigit, number_from, most_digits};
-ghost use Rattle.fix_num.specs.Scan.{is_negative, after_sign, digits_in_front, after_digits, after_point, Says};
+ghost use Rattle.fix_num.specs.Cutting.{is_negative, after_sign, digits_in_front, after_digits, after_point, Says};
 
 // 1 with as many zeros as there may be significant digits.
 const DIGIT_LIMIT: u128 = 10_000_000_000_000_000_000_000_000;
@@ -113,7 +113,7 @@ fn more_digits(before: u128, digits: &[u8]) -> Option<u128>
     ensures { MatchOption result (10 ^ most_digits ≤ number_from before digits.now) (λ n. (n ≡ number_from before digits.now) × (n < 10 ^ most_digits)) }
 {
     let mut value = before;
-    for b in digits {
+    'each: for b in digits {
         value = 10 * value + (*b - b'0') as u128;
         if DIGIT_LIMIT <= value {
             return None;

@@ -3,147 +3,150 @@
 use super::tables::{
     CODES, CODES_OUT, CONVERSIONS, DECIMALS, FAULTY, FROM_INTS, FROM_UNSIGNED, HALVES, INT_CASES,
     ISQRTS, LONG, OPERATIONS, PRODUCTS, QUOTIENTS, ROOTS, ROUNDED, SHIFTED, SUMS, TIMES,
-    UNSIGNED_CASES,
+    UNSIGNED_CASES, WORKED_HALVES, WORKED_INTS, WORKED_RAWS,
 };
-use crate::{Fix, LOG2_TEN, LiteralFault, isqrt, read_decimal, rnd, rnd_shift, saturated, whole};
+use crate::{
+    Fix, LOG2_TEN, LiteralFault, as_int, as_unsigned, isqrt, of_bool, read_decimal, rnd, rnd_shift,
+    saturated, truth, whole,
+};
 use std::process::Abort;
 
 fn number(raw: i64) -> Fix {
     saturated(raw as i128)
 }
 
+// Fails at the first row that does not hold.
+fn check<T, F: Fn(&T) -> bool>(rt: &impl Abort, rows: &[T], holds: F)
+    requires { F.IsAlwaysCallable holds }
+{
+    for (k, row) in rows.iter().enumerate() {
+        assert!(rt; holds(row), "row {k}");
+    }
+}
+
 #[test]
 fn rounding(rt: HostRuntime) {
-    for (n, d, want) in ROUNDED.iter().copied() {
-        assert_eq!(rt; rnd(n as i128, d.max(1) as i128), want, "{n} / {d}");
-    }
-    for (n, bits, want) in SHIFTED.iter().copied() {
-        assert_eq!(rt; rnd_shift(n as i128, bits.min(62)), want, "{n} / 2^{bits}");
-    }
+    check(
+        &rt,
+        &ROUNDED,
+        |(n, d, want)| rnd(*n as i128, (*d).max(1) as i128) == *want,
+    );
+    check(
+        &rt,
+        &SHIFTED,
+        |(n, bits, want)| rnd_shift(*n as i128, (*bits).min(62)) == *want,
+    );
+    check(&rt, &ISQRTS, |(n, want)| isqrt(*n) == *want);
 }
 
 #[test]
 fn arithmetic(rt: HostRuntime) {
-    for (a, b, sum, difference) in SUMS.iter().copied() {
-        assert_eq!(rt; number(a).add(number(b)).raw(), sum, "{a} + {b}");
-        assert_eq!(rt; number(a).sub(number(b)).raw(), difference, "{a} - {b}");
-        assert_eq!(rt;
-            number(a).neg().add(number(b).neg()),
-            number(sum).neg(),
-            "-{a} - {b}"
-        );
-    }
-    for (a, b, want) in PRODUCTS.iter().copied() {
-        assert_eq!(rt; number(a).mul(number(b)).raw(), want, "{a} * {b}");
-    }
-    for (a, b, want) in QUOTIENTS.iter().copied() {
-        assert_eq!(rt; number(a).div(number(b)).raw(), want, "{a} / {b}");
-    }
-    for (a, n, want) in TIMES.iter().copied() {
-        assert_eq!(rt;
-            number(a).times(n.min(LOG2_TEN)).raw(),
-            want,
-            "{a} * {n} / 10^18"
-        );
-    }
-}
-
-#[test]
-fn halves_and_roots(rt: HostRuntime) {
-    for (a, want) in HALVES.iter().copied() {
-        assert_eq!(rt; number(a).to_half().raw(), want, "the half of {a}");
-    }
-    for (a, want) in ROOTS.iter().copied() {
-        assert_eq!(rt; number(a).sqrt().raw(), want, "the root of {a}");
-    }
-    for (n, want) in ISQRTS.iter().copied() {
-        assert_eq!(rt; isqrt(n), want, "the root of {n}");
-    }
+    check(&rt, &SUMS, |(a, b, sum, difference)| {
+        number(*a).add(number(*b)).raw() == *sum && number(*a).sub(number(*b)).raw() == *difference
+    });
+    check(
+        &rt,
+        &PRODUCTS,
+        |(a, b, want)| number(*a).mul(number(*b)).raw() == *want,
+    );
+    check(
+        &rt,
+        &QUOTIENTS,
+        |(a, b, want)| number(*a).div(number(*b)).raw() == *want,
+    );
+    check(
+        &rt,
+        &TIMES,
+        |(a, n, want)| number(*a).times((*n).min(LOG2_TEN)).raw() == *want,
+    );
+    check(&rt, &ROOTS, |(a, want)| number(*a).sqrt().raw() == *want);
 }
 
 #[test]
 fn conversions(rt: HostRuntime) {
-    for (a, floor, int, unsigned) in CONVERSIONS.iter().copied() {
-        assert_eq!(rt; number(a).floor().raw(), floor, "the floor of {a}");
-        assert_eq!(rt; number(a).to_i32(), int, "the int of {a}");
-        assert_eq!(rt; number(a).to_u32(), unsigned, "the unsigned of {a}");
-    }
-    for (n, want) in FROM_INTS.iter().copied() {
-        assert_eq!(rt; Fix::from_i32(n).raw(), want, "from {n}");
-    }
-    for (n, want) in FROM_UNSIGNED.iter().copied() {
-        assert_eq!(rt; Fix::from_u32(n).raw(), want, "from {n}");
-    }
+    check(
+        &rt,
+        &HALVES,
+        |(a, want)| number(*a).to_half().raw() == *want,
+    );
+    check(&rt, &CONVERSIONS, |(a, size, floor, int, unsigned)| {
+        let x = number(*a);
+        x.abs().raw() == *size
+            && x.floor().raw() == *floor
+            && x.to_i32() == *int
+            && x.to_u32() == *unsigned
+    });
+    check(&rt, &FROM_INTS, |(n, raw, half, unsigned)| {
+        Fix::from_i32(*n).raw() == *raw
+            && Fix::half_from_i32(*n).raw() == *half
+            && as_unsigned(*n) == *unsigned
+    });
+    check(&rt, &FROM_UNSIGNED, |(n, raw, half, int)| {
+        Fix::from_u32(*n).raw() == *raw
+            && Fix::half_from_u32(*n).raw() == *half
+            && as_int(*n) == *int
+    });
+    assert!(rt; Fix::from_bool(true) == Fix::ONE && Fix::from_bool(false).raw() == 0);
+    assert!(rt; of_bool(true) == 1 && of_bool(false) == 0);
+    assert!(rt; truth(-1) && !truth(0) && Fix::ONE.neg().truth() && !Fix::from_raw(0).truth());
 }
 
 #[test]
 fn codes(rt: HostRuntime) {
-    for (bits, code, want) in CODES.iter().copied() {
-        let x = match bits {
-            8 if code < 256 => Fix::code_in(code, 8),
-            10 if code < 1024 => Fix::code_in(code, 10),
-            _ => Fix::code_in(code, 16),
+    check(&rt, &CODES, |(bits, code, want)| {
+        let x = match *bits {
+            8 if *code < 256 => Fix::code_in(*code, 8),
+            10 if *code < 1024 => Fix::code_in(*code, 10),
+            _ => Fix::code_in(*code, 16),
         };
-        assert_eq!(rt; x.raw(), want, "{code} at {bits} bits");
-    }
-    for (bits, raw, want) in CODES_OUT.iter().copied() {
-        let code = match bits {
-            8 => number(raw).code_out(8),
-            10 => number(raw).code_out(10),
-            _ => number(raw).code_out(16),
-        };
-        assert_eq!(rt; code, want, "{raw} at {bits} bits");
-    }
-}
-
-fn ints_give(rt: &impl Abort, a: i32, b: i32, wants: &[i32]) {
-    for (op, want) in OPERATIONS.iter().zip(wants) {
-        assert_eq!(rt;
-            whole(*op, true, a as i64, b as i64),
-            *want as i64,
-            "{op:?} of {a}, {b}"
-        );
-    }
-}
-
-fn unsigned_give(rt: &impl Abort, a: u32, b: u32, wants: &[u32]) {
-    for (op, want) in OPERATIONS.iter().zip(wants) {
-        assert_eq!(rt;
-            whole(*op, false, a as i64, b as i64),
-            *want as i64,
-            "{op:?} of {a}, {b}"
-        );
-    }
+        x.raw() == *want
+    });
+    check(
+        &rt,
+        &CODES_OUT,
+        |(bits, raw, want)| number(*raw).code_out((*bits).clamp(8, 16)) == *want,
+    );
 }
 
 #[test]
 fn integers(rt: HostRuntime) {
-    for (a, b, wants) in INT_CASES.iter().copied() {
-        ints_give(&rt, a, b, wants);
-    }
-    for (a, b, wants) in UNSIGNED_CASES.iter().copied() {
-        unsigned_give(&rt, a, b, wants);
-    }
+    check(
+        &rt,
+        &WORKED_INTS,
+        |(op, a, b, want)| whole(*op, true, *a as i64, *b as i64) == *want as i64,
+    );
+    check(&rt, &INT_CASES, |(a, b, wants)| {
+        OPERATIONS.iter().zip(*wants).all(|(op, want)| whole(*op, true, *a as i64, *b as i64)
+            == *want as i64)
+    });
+    check(&rt, &UNSIGNED_CASES, |(a, b, wants)| {
+        OPERATIONS.iter().zip(*wants).all(|(op, want)| whole(*op, false, *a as i64, *b as i64)
+            == *want as i64)
+    });
+}
+
+// Whether a text spells a number of this raw.
+fn spells(text: &[u8], raw: i64) -> bool {
+    matches!(read_decimal(text), Ok(x) if x.raw() == raw)
 }
 
 #[test]
 fn decimals(rt: HostRuntime) {
-    for (k, (text, want)) in DECIMALS.iter().enumerate() {
-        assert!(rt;
-            matches!(read_decimal(text), Ok(x) if x.raw() == *want),
-            "spelling {k}"
-        );
-    }
-    for (k, text) in FAULTY.iter().enumerate() {
-        assert!(rt;
-            matches!(read_decimal(text), Err(LiteralFault::NotANumber)),
-            "faulty text {k}"
-        );
-    }
-    for (k, text) in LONG.iter().enumerate() {
-        assert!(rt;
-            matches!(read_decimal(text), Err(LiteralFault::TooManyDigits)),
-            "long spelling {k}"
-        );
-    }
+    check(&rt, &WORKED_RAWS, |(text, raw)| spells(text, *raw));
+    check(&rt, &DECIMALS, |(text, raw)| spells(text, *raw));
+    check(
+        &rt,
+        &FAULTY,
+        |text| matches!(read_decimal(text), Err(LiteralFault::NotANumber)),
+    );
+    check(
+        &rt,
+        &LONG,
+        |text| matches!(read_decimal(text), Err(LiteralFault::TooManyDigits)),
+    );
+    check(
+        &rt,
+        &WORKED_HALVES,
+        |(text, raw)| matches!(read_decimal(text), Ok(x) if x.to_half().raw() == *raw),
+    );
 }

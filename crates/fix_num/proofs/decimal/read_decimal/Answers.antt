@@ -5,7 +5,7 @@ use Rattle.std.specs.Int.{w128}
 use Rattle.fix_num.specs.declared.TheConstants.{FRACTION}
 use Rattle.fix_num.specs.Fixed.{sat}
 use Rattle.fix_num.specs.Decimal.{Decimal, number, number_from, digits_of, significant, signed, nearest, exponent_or_zero, decimal_raw}
-use Rattle.fix_num.specs.Scan.{Says}
+use Rattle.fix_num.specs.Cutting.{Says}
 use Rattle.fix_num.proofs.Cut.{says_small, said_number, said_digits}
 use Rattle.fix_num.proofs.Number.{significant_above, significant_at_most}
 use Rattle.fix_num.proofs.decimal.read_decimal.Goals as goal

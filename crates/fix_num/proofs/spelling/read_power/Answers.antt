@@ -4,7 +4,7 @@ use Rattle.std.proofs.lemmas.Bool.Decides.{nat_tests}
 use Rattle.std.proofs.lemmas.Int.{ints}
 use Rattle.std.specs.Int.{w128}
 use Rattle.fix_num.specs.Decimal.{IsDigit, number, signed}
-use Rattle.fix_num.specs.Scan.{after_sign, digits_in_front, after_digits, is_negative}
+use Rattle.fix_num.specs.Cutting.{after_sign, digits_in_front, after_digits, is_negative}
 use Rattle.fix_num.proofs.Cut.{front_digits, IsPower, power_cut, power_from}
 use Rattle.fix_num.proofs.Number.{few_small}
 use Rattle.fix_num.proofs.spelling.read_power.Goals as goal

@@ -4,7 +4,7 @@ use Rattle.std.proofs.lemmas.Bool.Decides.{nat_tests}
 use Rattle.std.proofs.lemmas.Int.{to_z-of_z}
 use Rattle.std.specs.Int.{w128}
 use Rattle.fix_num.specs.Decimal.{SpellsExponent, exponent_or_zero}
-use Rattle.fix_num.specs.Scan.{after_sign, digits_in_front, after_digits, after_point, is_negative}
+use Rattle.fix_num.specs.Cutting.{after_sign, digits_in_front, after_digits, after_point, is_negative}
 use Rattle.fix_num.proofs.Cut.{IsCut, spelt_cut, spelt_from, has_point}
 use Rattle.fix_num.proofs.spelling.split_parts.Goals as goal
 use Rattle.fix_num.proofs.spelling.split_parts.Goals.{else-is_empty-via-then-is_empty+else-is_empty-2, else-is_empty-via-else-is_empty}
