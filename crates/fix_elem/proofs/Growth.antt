@@ -4,6 +4,7 @@ use Rattle.std.proofs.Math.Nat.{div-mul-le_self, lt-div-mul-add, le_of_mul-le-mu
 use Rattle.std.specs.Int.{bit_at}
 use Rattle.std.proofs.Math.Pow.{mod-pow-add, pow_pos}
 use Rattle.std.proofs.lemmas.Nat.Bits.{bit_at-lt}
+use Rattle.fix_num.specs.Fixed.{RootIsFloor}
 use Rattle.fix_elem.specs.Elementary.{constants, power_from, power, PowerGrows}
 use Rattle.fix_elem.proofs.Roots.{AreHalves, last_of, roots_are_halves, roots_count, last_above_one}
 
@@ -118,11 +119,11 @@ growth before e (c ∷ cs) f g he h top next =
           omega arith
     ]
 
-pub power_grows : PowerGrows
+pub power_grows : RootIsFloor → PowerGrows
 unfolding power
-power_grows F f h room =
+power_grows law F f h room =
     let n : length (constants F) ≡ F = roots_count F (2 ^ 63) in
     let a : f % 2 ^ F ≡ f = mod-eq_of_lt (omega arith) in
     let b : (f + 1) % 2 ^ F ≡ f + 1 = mod-eq_of_lt room in
     let e : f % 2 ^ F + 1 ≡ (f + 1) % 2 ^ F = ap (λ (x : ℕ). x + 1) a ∙ sym b in
-    growth (2 ^ 63) (2 ^ 62) (constants F) f (f + 1) (omega arith) (roots_are_halves F (2 ^ 63) (omega arith)) (last_above_one F h) (subst (λ (x : ℕ). f % 2 ^ x + 1 ≡ (f + 1) % 2 ^ x) (sym n) e)
+    growth (2 ^ 63) (2 ^ 62) (constants F) f (f + 1) (omega arith) (roots_are_halves law F (2 ^ 63) (omega arith)) (last_above_one law F h) (subst (λ (x : ℕ). f % 2 ^ x + 1 ≡ (f + 1) % 2 ^ x) (sym n) e)

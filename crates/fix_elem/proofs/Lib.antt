@@ -1,6 +1,6 @@
-pub mod FloorLog
-pub mod Growth
-pub mod Roots
-pub mod Search
-pub mod Shift
-pub mod Walk
+mod FloorLog
+mod Growth
+mod Roots
+mod Search
+mod Shift
+mod Walk

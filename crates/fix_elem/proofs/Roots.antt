@@ -1,10 +1,10 @@
 -- The constants: none is below 1, the square of each is at most the one before it, and the table holds them.
+-- What says so takes the law of the root, which is that of `root_is_floor`.
 use Rattle.std.proofs.Common.{◌≡◌, ℕ, zero, suc, ◌+◌, ◌*◌, ◌^◌, ◌<◌, ◌≤◌, List, [], ◌∷◌, length, get_or, Bool, true, false, ◌&&◌, nat_le, nat_lt, inl, inr, refl, ap, ◌∙◌, arith}
 use Rattle.std.proofs.Math.Nat.{le_of_mul-le-mul_right, mul-le-mul_left, mul-le-mul_right}
 use Rattle.std.proofs.lemmas.Bool.{cases_lt}
 use Rattle.std.proofs.lemmas.Bool.Decides.{nat_tests}
-use Rattle.fix_num.specs.Fixed.{root}
-use Rattle.fix_num.proofs.Squares.{root_low, root_high, root_unique}
+use Rattle.fix_num.specs.Fixed.{root, RootIsFloor}
 use Rattle.fix_elem.specs.declared.constants.TheConstants.{TABLE}
 use Rattle.fix_elem.specs.Elementary.{roots_from, constants}
 
@@ -33,36 +33,36 @@ above_one n r h high =
       | inr le ↦ le
     ]
 
-root_above_one : (before : ℕ) → 2 ^ 62 ≤ before → 2 ^ 62 ≤ root (before * 2 ^ 62)
-root_above_one before h = above_one (before * 2 ^ 62) (root (before * 2 ^ 62)) (omega arith) (root_high (before * 2 ^ 62))
+root_above_one : RootIsFloor → (before : ℕ) → 2 ^ 62 ≤ before → 2 ^ 62 ≤ root (before * 2 ^ 62)
+root_above_one law before h = above_one (before * 2 ^ 62) (root (before * 2 ^ 62)) (omega arith) (law (before * 2 ^ 62)).1
 
-pub roots_are_halves : (n before : ℕ) → 2 ^ 62 ≤ before → AreHalves before (roots_from n before)
+pub roots_are_halves : RootIsFloor → (n before : ℕ) → 2 ^ 62 ≤ before → AreHalves before (roots_from n before)
 unfolding roots_from
-roots_are_halves zero before h = tt
-roots_are_halves (suc n) before h =
-    let low : 2 ^ 62 ≤ root (before * 2 ^ 62) = root_above_one before h in
-    (low, root_low (before * 2 ^ 62), roots_are_halves n (root (before * 2 ^ 62)) low)
+roots_are_halves law zero before h = tt
+roots_are_halves law (suc n) before h =
+    let low : 2 ^ 62 ≤ root (before * 2 ^ 62) = root_above_one law before h in
+    (low, (law (before * 2 ^ 62)).0, roots_are_halves law n (root (before * 2 ^ 62)) low)
 
 pub roots_count : (n before : ℕ) → length (roots_from n before) ≡ n
 unfolding roots_from
 roots_count zero before = refl
 roots_count (suc n) before = ap suc (roots_count n (root (before * 2 ^ 62)))
 
-last_below : (n before : ℕ) → 2 ^ 62 ≤ before → last_of before (roots_from n before) ≤ before
+last_below : RootIsFloor → (n before : ℕ) → 2 ^ 62 ≤ before → last_of before (roots_from n before) ≤ before
 unfolding roots_from
-last_below zero before h = omega arith
-last_below (suc n) before h =
-    let low : 2 ^ 62 ≤ root (before * 2 ^ 62) = root_above_one before h in
-    let a : root (before * 2 ^ 62) ≤ before = falling before (root (before * 2 ^ 62)) low (root_low (before * 2 ^ 62)) in
-    let b : last_of (root (before * 2 ^ 62)) (roots_from n (root (before * 2 ^ 62))) ≤ root (before * 2 ^ 62) = last_below n (root (before * 2 ^ 62)) low in
+last_below law zero before h = omega arith
+last_below law (suc n) before h =
+    let low : 2 ^ 62 ≤ root (before * 2 ^ 62) = root_above_one law before h in
+    let a : root (before * 2 ^ 62) ≤ before = falling before (root (before * 2 ^ 62)) low (law (before * 2 ^ 62)).0 in
+    let b : last_of (root (before * 2 ^ 62)) (roots_from n (root (before * 2 ^ 62))) ≤ root (before * 2 ^ 62) = last_below law n (root (before * 2 ^ 62)) low in
     omega (arith, a, b)
 
 -- more constants end no higher
-last_falls : (n m before : ℕ) → n ≤ m → 2 ^ 62 ≤ before → last_of before (roots_from m before) ≤ last_of before (roots_from n before)
+last_falls : RootIsFloor → (n m before : ℕ) → n ≤ m → 2 ^ 62 ≤ before → last_of before (roots_from m before) ≤ last_of before (roots_from n before)
 unfolding roots_from
-last_falls zero m before h low = last_below m before low
-last_falls (suc n) zero before h low = absurd (omega arith)
-last_falls (suc n) (suc m) before h low = last_falls n m (root (before * 2 ^ 62)) (omega arith) (root_above_one before low)
+last_falls law zero m before h low = last_below law m before low
+last_falls law (suc n) zero before h low = absurd (omega arith)
+last_falls law (suc n) (suc m) before h low = last_falls law n m (root (before * 2 ^ 62)) (omega arith) (root_above_one law before low)
 
 -- each is the root of the one before it, as a test
 abbrev are_roots : ℕ → List ℕ → Bool
@@ -74,18 +74,18 @@ both true true h = (refl, refl)
 both true false h = absurd (cc)
 both false q h = absurd (cc)
 
-roots_by_test : (before : ℕ) (cs : List ℕ) → are_roots before cs ≡ true → roots_from (length cs) before ≡ cs
+roots_by_test : RootIsFloor → (before : ℕ) (cs : List ℕ) → are_roots before cs ≡ true → roots_from (length cs) before ≡ cs
 unfolding roots_from
-roots_by_test before [] h = refl
-roots_by_test before (c ∷ cs) h =
+roots_by_test law before [] h = refl
+roots_by_test law before (c ∷ cs) h =
     let a : (nat_le (c * c) (before * 2 ^ 62) && nat_lt (before * 2 ^ 62) ((c + 1) * (c + 1)) ≡ true) × (are_roots c cs ≡ true) = both _ _ h in
     let b : (nat_le (c * c) (before * 2 ^ 62) ≡ true) × (nat_lt (before * 2 ^ 62) ((c + 1) * (c + 1)) ≡ true) = both _ _ a.0 in
-    let e : root (before * 2 ^ 62) ≡ c = root_unique (before * 2 ^ 62) c (grind (arith, nat_tests, b.0)) (grind (arith, nat_tests, b.1)) in
-    ap (λ (r : ℕ). r ∷ roots_from (length cs) r) e ∙ ap (λ (ds : List ℕ). c ∷ ds) (roots_by_test c cs a.1)
+    let e : root (before * 2 ^ 62) ≡ c = (law (before * 2 ^ 62)).2 c (grind (arith, nat_tests, b.0)) (grind (arith, nat_tests, b.1)) in
+    ap (λ (r : ℕ). r ∷ roots_from (length cs) r) e ∙ ap (λ (ds : List ℕ). c ∷ ds) (roots_by_test law c cs a.1)
 
 -- the table holds the constants of 40 bits
-table_is : constants 40 ≡ TABLE
-table_is = roots_by_test (2 ^ 63) TABLE refl
+table_is : RootIsFloor → constants 40 ≡ TABLE
+table_is law = roots_by_test law (2 ^ 63) TABLE refl
 
 same_place : (n m before k : ℕ) → k < n → k < m → get_or (roots_from n before) k 0 ≡ get_or (roots_from m before) k 0
 unfolding roots_from
@@ -95,12 +95,12 @@ same_place (suc n) (suc m) before zero h l = refl
 same_place (suc n) (suc m) before (suc k) h l = same_place n m (root (before * 2 ^ 62)) k (omega arith) (omega arith)
 
 -- so its first F entries are the constants of F bits
-pub entry : (F k : ℕ) → F ≤ 40 → k < F → get_or (constants F) k 0 ≡ get_or TABLE k 0
-entry F k h l = same_place F 40 (2 ^ 63) k l (omega arith) ∙ ap (λ (cs : List ℕ). get_or cs k 0) table_is
+pub entry : RootIsFloor → (F k : ℕ) → F ≤ 40 → k < F → get_or (constants F) k 0 ≡ get_or TABLE k 0
+entry law F k h l = same_place F 40 (2 ^ 63) k l (omega arith) ∙ ap (λ (cs : List ℕ). get_or cs k 0) (table_is law)
 
 -- the last constant is above 1
-pub last_above_one : (F : ℕ) → F ≤ 40 → 2 ^ 62 < last_of (2 ^ 63) (constants F)
-last_above_one F h =
-    let l : last_of (2 ^ 63) (constants 40) ≤ last_of (2 ^ 63) (constants F) = last_falls F 40 (2 ^ 63) h (omega arith) in
-    let t : last_of (2 ^ 63) (constants 40) ≡ last_of (2 ^ 63) TABLE = ap (λ (cs : List ℕ). last_of (2 ^ 63) cs) table_is in
+pub last_above_one : RootIsFloor → (F : ℕ) → F ≤ 40 → 2 ^ 62 < last_of (2 ^ 63) (constants F)
+last_above_one law F h =
+    let l : last_of (2 ^ 63) (constants 40) ≤ last_of (2 ^ 63) (constants F) = last_falls law F 40 (2 ^ 63) h (omega arith) in
+    let t : last_of (2 ^ 63) (constants 40) ≡ last_of (2 ^ 63) TABLE = ap (λ (cs : List ℕ). last_of (2 ^ 63) cs) (table_is law) in
     omega (arith, l, t)

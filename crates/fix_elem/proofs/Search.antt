@@ -7,6 +7,7 @@ use Rattle.std.proofs.lemmas.Nat.{same_from_place, mod_low}
 use Rattle.std.proofs.lemmas.Nat.Bits.{bit_at_above, bit_at_cat_high}
 use Rattle.std.proofs.lemmas.Bool.Decides.{nat_tests}
 use Rattle.std.specs.Int.{bit_at}
+use Rattle.fix_num.specs.Fixed.{RootIsFloor}
 use Rattle.fix_elem.specs.Elementary.{constants, power_from, power, greatest_within, exponent, ExponentIsGreatest}
 use Rattle.fix_elem.proofs.Roots.{AreHalves, roots_are_halves, roots_count}
 use Rattle.fix_elem.proofs.Growth.{from_zero, step, step_grows, split_top, low_below, either}
@@ -146,12 +147,12 @@ exponent_law F m h =
     (omega (arith, p, w), r.value, λ g l k. r.greatest g (omega (arith, l)) k)
 
 -- what is found is the exponent
-pub found : (F m : ℕ) → 2 ^ 62 ≤ m → exponent F m ≡ find (constants F) (2 ^ 62) m
+pub found : RootIsFloor → (F m : ℕ) → 2 ^ 62 ≤ m → exponent F m ≡ find (constants F) (2 ^ 62) m
 unfolding power
-found F m h =
+found root_law F m h =
     let f : ℕ = find (constants F) (2 ^ 62) m in
     let n : length (constants F) ≡ F = roots_count F (2 ^ 63) in
-    let halves : AreHalves (2 ^ 63) (constants F) = roots_are_halves F (2 ^ 63) (omega arith) in
+    let halves : AreHalves (2 ^ 63) (constants F) = roots_are_halves root_law F (2 ^ 63) (omega arith) in
     let law = exponent_law F m h in
     let b : f < 2 ^ F = subst (λ (x : ℕ). f < 2 ^ x) n (find_below (constants F) (2 ^ 62) m) in
     let low : f ≤ exponent F m = law.2 f b (find_value (constants F) (2 ^ 62) m h) in

@@ -4,6 +4,7 @@ use Rattle.std.specs.Int.{bit_at}
 use Rattle.std.specs.Prelude.{bit_and}
 use Rattle.std.proofs.lemmas.Nat.Bits.{shr_and_one, bit_at-lt}
 use Rattle.std.proofs.Math.Nat.{le_of_mul-le-mul_right, mul-le-mul_left, mul-le-mul_right}
+use Rattle.fix_num.specs.Fixed.{RootIsFloor}
 use Rattle.fix_elem.specs.Elementary.{constants, power_from}
 use Rattle.fix_elem.proofs.Roots.{AreHalves, last_of, falling, roots_are_halves, last_above_one}
 use Rattle.fix_elem.proofs.Growth.{step, step_low}
@@ -68,8 +69,8 @@ is_clear f i h =
     omega (arith, a, b, h)
 
 -- at the start, and at the end
-pub first_room : (F : ℕ) → F ≤ 40 → Room (2 ^ 62) (constants F)
-first_room F h = record { before = 2 ^ 63; halves = roots_are_halves F (2 ^ 63) (omega arith); within = omega arith; low = omega arith; top = last_above_one F h }
+pub first_room : RootIsFloor → (F : ℕ) → F ≤ 40 → Room (2 ^ 62) (constants F)
+first_room law F h = record { before = 2 ^ 63; halves = roots_are_halves law F (2 ^ 63) (omega arith); within = omega arith; low = omega arith; top = last_above_one law F h }
 
 pub last_room : (e : ℕ) → Room e [] → e < 2 ^ 63
 last_room e r =

@@ -1,6 +1,7 @@
 -- Powers, logarithms and roots, over raws. F is the number of fraction bits.
 use Rattle.std.specs.Prelude.{◌≡◌, ℕ, zero, suc, ℤ, pos, negsuc, neg_ℤ, ◌+ℤ◌, ◌-ℤ◌, ◌*ℤ◌, ◌+◌, ◌-◌, ◌*◌, ◌/◌, ◌^◌, ◌<◌, ◌≤◌, ◌==◌, List, [], ◌∷◌, length, nat_le, int_lt, int_rem, unsigned_abs, if◌then◌else◌}
 use Rattle.std.specs.Int.{bit_at, int_rem_euclid}
+use Rattle.fix_num.specs.Constants.{log2_e, log2_ten, ln_2, log10_2}
 use Rattle.fix_num.specs.Fixed.{max_raw, floor_div, rnd, sat, one, root, fix_mul, fix_times}
 
 -- n constants with 62 fraction bits: each is the square root, rounded down, of the one before it
@@ -22,13 +23,13 @@ unfoldable pub power : ℕ → ℕ → ℕ
 power F f = power_from (constants F) (2 ^ 62) f
 
 -- e / 2^shift rounded, and the greatest raw for a negative shift
-abbrev pub scaled : ℕ → ℤ → ℤ
-scaled e (pos shift) = rnd (pos e) (pos (2 ^ shift))
-scaled e (negsuc _) = pos max_raw
+abbrev pub shifted : ℕ → ℤ → ℤ
+shifted e (pos shift) = rnd (pos e) (pos (2 ^ shift))
+shifted e (negsuc _) = pos max_raw
 
 -- 2 to the power of x: E of the fraction of x, shifted by the whole part of x
 unfoldable pub exp2 : ℕ → ℤ → ℤ
-exp2 F x = scaled (power F (unsigned_abs (int_rem_euclid x (one F)))) ((pos 62 -ℤ pos F) -ℤ floor_div x (one F))
+exp2 F x = shifted (power F (unsigned_abs (int_rem_euclid x (one F)))) ((pos 62 -ℤ pos F) -ℤ floor_div x (one F))
 
 -- the greatest f up to n with E(f) at most m, or else 0
 unfoldable pub greatest_within : ℕ → ℕ → ℕ → ℕ
@@ -54,19 +55,19 @@ log2 F x = if int_lt (pos 0) x then log2_above F (unsigned_abs x) else neg_ℤ (
 
 -- e to the power of x
 unfoldable pub exp : ℕ → ℤ → ℤ
-exp F x = exp2 F (fix_times x 1442695040888963407)
+exp F x = exp2 F (fix_times x log2_e)
 
 -- the logarithm to the base e
 unfoldable pub log : ℕ → ℤ → ℤ
-log F x = fix_times (log2 F x) 693147180559945309
+log F x = fix_times (log2 F x) ln_2
 
 -- 10 to the power of x
 unfoldable pub pow10 : ℕ → ℤ → ℤ
-pow10 F x = exp2 F (fix_times x 3321928094887362348)
+pow10 F x = exp2 F (fix_times x log2_ten)
 
 -- the logarithm to the base 10
 unfoldable pub log10 : ℕ → ℤ → ℤ
-log10 F x = fix_times (log2 F x) 301029995663981195
+log10 F x = fix_times (log2 F x) log10_2
 
 -- x to the power of y, for x above 0
 abbrev pub pow_above : ℕ → ℤ → ℤ → ℤ

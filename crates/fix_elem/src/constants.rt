@@ -1,7 +1,7 @@
 //! The constants of the powers of two.
 
 /// `2^(1/2)`, `2^(1/4)`, `2^(1/8)` and so on, with 62 fraction bits. Each is the square root, rounded down, of the
-/// one before it. As many serve as a number has fraction bits.
+/// one before it. As many serve as a number has fraction bits. Printed by tools/fix_elem_tables.py.
 pub(crate) const TABLE: [u64; 40] = [
     6521908912666391106,
     5484249825272419511,

@@ -5,7 +5,7 @@ ghost use Rattle.fix_elem.specs.Elementary.{exponent, log2_above, log2, log, log
 
 use crate::constants::TABLE;
 use crate::powers::{COUNT, stepped};
-use fix_num::{FRACTION, Fix, LN_2, LOG10_2};
+use fix_num::{FRACTION, Fix, LN_2, LOG10_2, root_is_floor};
 
 // The greatest f with E(f) at most m, bit by bit.
 fn exponent(m: u64) -> u64
@@ -13,9 +13,10 @@ fn exponent(m: u64) -> u64
     ensures value { result ≡ exponent FRACTION m }
     ensures small { result < 2 ^ FRACTION }
 {
+    root_is_floor();
     let mut e: u64 = 1 << 62;
     let mut f: u64 = 0;
-    for k in 0..COUNT {
+    'bits: for k in 0..COUNT {
         let next = stepped(e, TABLE[k]);
         if next <= m as u128 {
             e = next as u64;

@@ -1,10 +1,13 @@
 //! Powers of 2, of e and of 10.
 
 ghost use Rattle.std.specs.Prelude.{◌≡◌, ◌*◌, ◌/◌, ◌<◌, ◌^◌};
-ghost use Rattle.fix_elem.specs.Elementary.{power, scaled, exp2, exp, pow10};
+ghost use Rattle.fix_elem.specs.Elementary.{power, shifted, exp2, exp, pow10};
 
 use crate::constants::TABLE;
-use fix_num::{FRACTION, Fix, LOG2_E, LOG2_TEN, rnd_shift, saturated};
+use fix_num::{
+    FRACTION, Fix, LOG2_E, LOG2_TEN, floor_is_greatest, rnd_shift, root_is_floor,
+    rounding_keeps_bounds, saturated,
+};
 
 /// The number of constants that serve.
 pub(crate) const COUNT: usize = FRACTION as usize;
@@ -21,8 +24,9 @@ fn power(f: u64) -> u64
     ensures value { result ≡ power FRACTION f }
     ensures small { result < 2 ^ 63 }
 {
+    root_is_floor();
     let mut e: u64 = 1 << 62;
-    for k in 0..COUNT {
+    'bits: for k in 0..COUNT {
         if (f >> (COUNT - 1 - k)) & 1 == 1 {
             e = stepped(e, TABLE[k]) as u64;
         }
@@ -31,10 +35,11 @@ fn power(f: u64) -> u64
 }
 
 // `e / 2^shift`, rounded, and the greatest number for a negative shift. A shift above 64 leaves nothing of e.
-fn scaled(e: u64, shift: i64) -> Fix
+fn shifted(e: u64, shift: i64) -> Fix
     requires { e < 2 ^ 63 }
-    ensures { result ≡ scaled e shift }
+    ensures { result ≡ shifted e shift }
 {
+    rounding_keeps_bounds();
     let beyond = shift < 0;
     if beyond {
         Fix::from_raw(i64::MAX)
@@ -49,9 +54,10 @@ fn scaled(e: u64, shift: i64) -> Fix
 pub fn exp2(x: Fix) -> Fix
     ensures { result ≡ exp2 FRACTION x }
 {
+    floor_is_greatest();
     let whole = x.raw().div_euclid(1 << FRACTION);
     let rest = x.raw().rem_euclid(1 << FRACTION);
-    scaled(power(rest as u64), 62 - FRACTION as i64 - whole)
+    shifted(power(rest as u64), 62 - FRACTION as i64 - whole)
 }
 
 /// e to the power of x.

@@ -1,5 +1,4 @@
-//! Worked values and tables of cases at the edges.
+//! Worked values, and tables of cases at the edges.
 
 mod cases;
 mod tables;
-mod worked;

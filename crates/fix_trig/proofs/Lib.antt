@@ -1,6 +1,5 @@
--- The lemmas of this crate.
-pub mod Bounds
-pub mod Constants
-pub mod Reached
-pub mod Size
-pub mod Steps
+mod Bounds
+mod Reached
+mod Size
+mod Steps
+mod Turns

@@ -4,9 +4,8 @@ use Rattle.std.specs.Int.{bit_at}
 use Rattle.std.proofs.Math.Nat.{pow-succ'}
 use Rattle.std.proofs.Math.Pow.{pow_pos}
 use Rattle.std.proofs.lemmas.Nat.Bits.{bit_at_cat_high, bit_at_lowest}
-use Rattle.fix_trig.specs.declared.turn.Direction.{Direction}
-use Rattle.fix_trig.specs.Turn.{turned, direction_at}
-use Rattle.fix_trig.specs.Angle.{OnTheWay, reaches, found, EndsAtItsAngle}
+use Rattle.fix_trig.specs.Turn.{UnitVector, turned, direction_at}
+use Rattle.fix_trig.specs.Angle.{OnTheWay, is_at_or_beyond, found, EndsAtItsAngle}
 use Rattle.fix_trig.proofs.Steps.{direction_first, direction_set, direction_clear, found_first, found_taken, found_left}
 
 -- only the highest bits count
@@ -17,7 +16,7 @@ same_high F f g (suc k) h =
     let e : k + 1 ≡ suc k = omega arith in
     let b : bit_at f (F - suc k) ≡ bit_at g (F - suc k) = subst (λ (x : ℕ). bit_at f (F - x) ≡ bit_at g (F - x)) e (h k (omega arith)) in
     let d : direction_at F f k ≡ direction_at F g k = same_high F f g k (λ j l. h j (omega arith)) in
-    ap (λ (x : ℕ). if x == 1 then turned k (direction_at F f k) else direction_at F f k) b ∙ ap (λ (x : Direction). if bit_at g (F - suc k) == 1 then turned k x else x) d
+    ap (λ (x : ℕ). if x == 1 then turned k (direction_at F f k) else direction_at F f k) b ∙ ap (λ (x : UnitVector). if bit_at g (F - suc k) == 1 then turned k x else x) d
 
 -- after k turns the angle has its k highest bits, and the direction is theirs
 record IsReached (F k : ℕ) (w : OnTheWay) : Type 0 where
@@ -78,7 +77,7 @@ left F k w h r =
     let s : bit_at w.angle i ≡ 0 = ap (λ (x : ℕ). bit_at x i) a ∙ next_clear r.high i in
     record { high = 2 * r.high; angle = a ∙ even r.high (2 ^ i) (2 ^ suc i) p; at = r.at ∙ sym (direction_clear F w.angle k s) }
 
-step : (F u v k : ℕ) → k < F → IsReached F k (found F u v k) → (t : Bool) → reaches u v (turned k (found F u v k).at) ≡ t → IsReached F (k + 1) (found F u v (k + 1))
+step : (F u v k : ℕ) → k < F → IsReached F k (found F u v k) → (t : Bool) → is_at_or_beyond u v (turned k (found F u v k).at) ≡ t → IsReached F (k + 1) (found F u v (k + 1))
 step F u v k h r true e = subst (IsReached F (k + 1)) (sym (found_taken F u v k e)) (taken F k (found F u v k) h r)
 step F u v k h r false e = subst (IsReached F (k + 1)) (sym (found_left F u v k e)) (left F k (found F u v k) h r)
 
@@ -89,7 +88,7 @@ reached : (F u v k : ℕ) → k ≤ F → IsReached F k (found F u v k)
 reached F u v zero h = first F u v
 reached F u v (suc k) h =
     let e : k + 1 ≡ suc k = omega arith in
-    subst (λ (x : ℕ). IsReached F x (found F u v x)) e (step F u v k (omega arith) (reached F u v k (omega arith)) (reaches u v (turned k (found F u v k).at)) refl)
+    subst (λ (x : ℕ). IsReached F x (found F u v x)) e (step F u v k (omega arith) (reached F u v k (omega arith)) (is_at_or_beyond u v (turned k (found F u v k).at)) refl)
 
 pub ends_at_its_angle : EndsAtItsAngle
 ends_at_its_angle F u v = (reached F u v F (omega arith)).at

@@ -3,8 +3,7 @@ use Rattle.std.proofs.Common.{◌≡◌, ℕ, zero, suc, ℤ, pos, negsuc, neg_�
 use Rattle.std.proofs.Math.Nat.{le-div_iff_mul-le}
 use Rattle.std.proofs.lemmas.Int.{ints, to_z-of_z, to_z_pos, fits_signed_from_abs, unsigned_abs-mul}
 use Rattle.std.specs.Int.{w128}
-use Rattle.fix_num.specs.Fixed.{rnd}
-use Rattle.fix_num.proofs.Floor.{rnd_low, rnd_high}
+use Rattle.fix_num.specs.Fixed.{rnd, RoundingIsNearest, IsRounded}
 
 rnd_abs_at : (r n : ℤ) (most d : ℕ) → 0 < d → unsigned_abs n ≤ most → (pos 2 *ℤ (r *ℤ pos d)) ≤ℤ (pos 2 *ℤ n +ℤ pos d) → (pos 2 *ℤ n +ℤ pos d) <ℤ (pos 2 *ℤ (r *ℤ pos d) +ℤ pos 2 *ℤ pos d) → unsigned_abs r ≤ (2 * most + d) / (2 * d)
 rnd_abs_at (pos k) (pos n) most d some h low high =
@@ -21,8 +20,10 @@ rnd_abs_at (negsuc k) (negsuc n) most d some h low high =
     (le-div_iff_mul-le {k = 2 * d} {x = suc k} {y = 2 * most + d} (omega arith)).1 e
 
 -- rounding by d
-pub rnd_abs : (n : ℤ) (most d : ℕ) → 0 < d → unsigned_abs n ≤ most → unsigned_abs (rnd n (pos d)) ≤ (2 * most + d) / (2 * d)
-rnd_abs n most d some h = rnd_abs_at (rnd n (pos d)) n most d some h (rnd_low n (pos d) (omega (arith, ints))) (rnd_high n (pos d) (omega (arith, ints)))
+pub rnd_abs : RoundingIsNearest → (n : ℤ) (most d : ℕ) → 0 < d → unsigned_abs n ≤ most → unsigned_abs (rnd n (pos d)) ≤ (2 * most + d) / (2 * d)
+rnd_abs law n most d some h =
+    let r : IsRounded n (pos d) (rnd n (pos d)) = (law n (pos d) (omega (arith, ints))).0 in
+    rnd_abs_at (rnd n (pos d)) n most d some h r.low r.high
 
 -- the size of a difference of products
 pub difference_size : (p q : ℤ) (c s : ℕ) → unsigned_abs (p *ℤ pos c -ℤ q *ℤ pos s) ≤ unsigned_abs p * c + unsigned_abs q * s

@@ -5,11 +5,11 @@ use Rattle.std.specs.Prelude.{bit_and}
 use Rattle.std.proofs.lemmas.Int.{ints, to_z-of_z, to_z_pos, fits_signed_from_abs, fits_signed_mul}
 use Rattle.std.proofs.lemmas.Bool.Decides.{nat_tests}
 use Rattle.std.proofs.lemmas.Nat.Bits.{shr_and_one, bit_at-lt}
+use Rattle.fix_num.specs.Constants.{half_pi}
 use Rattle.fix_num.specs.Fixed.{rnd, one, fix_times}
-use Rattle.fix_trig.specs.declared.turn.Direction.{Direction}
-use Rattle.fix_trig.specs.Turn.{start, cosine, sine, turned, direction_at}
-use Rattle.fix_trig.specs.Bound.{IsWithin}
-use Rattle.fix_trig.specs.Angle.{reaches, found, unfolded, fix_atan2, half_pi}
+use Rattle.fix_trig.specs.Turn.{UnitVector, zero_direction, cosine, sine, turned, direction_at}
+use Rattle.fix_trig.specs.Bound.{IsBounded}
+use Rattle.fix_trig.specs.Angle.{is_at_or_beyond, found, unfolded, fix_atan2}
 use Rattle.fix_trig.proofs.Size.{as_difference}
 
 -- a number of 65 bits as the code computes it
@@ -28,9 +28,9 @@ le_difference a b true h = let e : int_le (pos 0) (b -ℤ a) ≡ true = grind (a
 le_difference a b false h = let e : int_le (pos 0) (b -ℤ a) ≡ false = grind (arith, ints) in h ∙ sym e
 
 -- the comparison of two such products as the code computes it
-pub reaches_is : (u v : ℕ) (d : Direction) → u < 2 ^ 63 → v < 2 ^ 63 → IsWithin (2 ^ 64 - 1) d
-    → int_le (to_z w128 (of_z w128 (to_z w128 u *ℤ to_z w128 (of_z w128 d.y)))) (to_z w128 (of_z w128 (to_z w128 v *ℤ to_z w128 (of_z w128 d.x)))) ≡ reaches u v d
-reaches_is u v d hu hv w =
+pub beyond_is : (u v : ℕ) (d : UnitVector) → u < 2 ^ 63 → v < 2 ^ 63 → IsBounded (2 ^ 64 - 1) d
+    → int_le (to_z w128 (of_z w128 (to_z w128 u *ℤ to_z w128 (of_z w128 d.y)))) (to_z w128 (of_z w128 (to_z w128 v *ℤ to_z w128 (of_z w128 d.x)))) ≡ is_at_or_beyond u v d
+beyond_is u v d hu hv w =
     let ey : to_z w128 (of_z w128 (to_z w128 u *ℤ to_z w128 (of_z w128 d.y))) ≡ pos u *ℤ d.y = scaled u d.y hu (omega (arith, w.y)) in
     let ex : to_z w128 (of_z w128 (to_z w128 v *ℤ to_z w128 (of_z w128 d.x))) ≡ pos v *ℤ d.x = scaled v d.x hv (omega (arith, w.x)) in
     ap (λ (z : ℤ). int_le z (to_z w128 (of_z w128 (to_z w128 v *ℤ to_z w128 (of_z w128 d.x))))) ey ∙ ap (λ (z : ℤ). int_le (pos u *ℤ d.y) z) ex ∙ le_difference (pos u *ℤ d.y) (pos v *ℤ d.x) (int_le (pos u *ℤ d.y) (pos v *ℤ d.x)) refl
@@ -40,14 +40,14 @@ negated (pos zero) = refl
 negated (pos (suc n)) = omega (arith, ints)
 negated (negsuc n) = omega (arith, ints)
 
-pub turned_is : (k : ℕ) (d : Direction) (x y : ℤ) → x ≡ rnd (d.x *ℤ pos (cosine k) -ℤ d.y *ℤ pos (sine k)) (pos (2 ^ 62)) → y ≡ rnd (d.y *ℤ pos (cosine k) -ℤ neg_ℤ d.x *ℤ pos (sine k)) (pos (2 ^ 62))
-    → ◌≡◌ {A = Direction} (record { x = x; y = y }) (turned k d)
+pub turned_is : (k : ℕ) (d : UnitVector) (x y : ℤ) → x ≡ rnd (d.x *ℤ pos (cosine k) -ℤ d.y *ℤ pos (sine k)) (pos (2 ^ 62)) → y ≡ rnd (d.y *ℤ pos (cosine k) -ℤ neg_ℤ d.x *ℤ pos (sine k)) (pos (2 ^ 62))
+    → ◌≡◌ {A = UnitVector} (record { x = x; y = y }) (turned k d)
 unfolding turned
 turned_is k d x y hx hy =
     let e : y ≡ rnd (d.x *ℤ pos (sine k) +ℤ d.y *ℤ pos (cosine k)) (pos (2 ^ 62)) = hy ∙ ap (λ (z : ℤ). rnd z (pos (2 ^ 62))) (as_difference d.x d.y (cosine k) (sine k)) in
     cc
 
-pub direction_first : (F f : ℕ) → direction_at F f 0 ≡ start
+pub direction_first : (F f : ℕ) → direction_at F f 0 ≡ zero_direction
 unfolding direction_at
 direction_first F f = refl
 
@@ -74,17 +74,17 @@ is_clear f i h =
     let b : bit_at f i < 2 = bit_at-lt f i in
     omega (arith, a, b, h)
 
-pub found_first : (F u v : ℕ) → found F u v 0 ≡ record { at = start; angle = 0 }
+pub found_first : (F u v : ℕ) → found F u v 0 ≡ record { at = zero_direction; angle = 0 }
 unfolding found
 found_first F u v = refl
 
-pub found_taken : (F u v k : ℕ) → reaches u v (turned k (found F u v k).at) ≡ true → found F u v (k + 1) ≡ record { at = turned k (found F u v k).at; angle = (found F u v k).angle + 2 ^ (F - (k + 1)) }
+pub found_taken : (F u v k : ℕ) → is_at_or_beyond u v (turned k (found F u v k).at) ≡ true → found F u v (k + 1) ≡ record { at = turned k (found F u v k).at; angle = (found F u v k).angle + 2 ^ (F - (k + 1)) }
 unfolding found
 found_taken F u v k t =
     let e : k + 1 ≡ suc k = omega arith in
     rw e (ap (λ (b : Bool). if b then record { at = turned k (found F u v k).at; angle = (found F u v k).angle + 2 ^ (F - suc k) } else found F u v k) t)
 
-pub found_left : (F u v k : ℕ) → reaches u v (turned k (found F u v k).at) ≡ false → found F u v (k + 1) ≡ found F u v k
+pub found_left : (F u v k : ℕ) → is_at_or_beyond u v (turned k (found F u v k).at) ≡ false → found F u v (k + 1) ≡ found F u v k
 unfolding found
 found_left F u v k t =
     let e : k + 1 ≡ suc k = omega arith in

@@ -1,21 +1,13 @@
 -- The angle functions on raws. F is the number of fraction bits.
 use Rattle.std.specs.Prelude.{◌≡◌, ℕ, zero, suc, ℤ, pos, neg_ℤ, ◌-ℤ◌, ◌*ℤ◌, ◌+◌, ◌-◌, ◌^◌, ◌==◌, Bool, max, min, int_lt, int_le, nat_lt, unsigned_abs, if◌then◌else◌}
 use Rattle.std.specs.Int.{int_rem_euclid}
+use Rattle.fix_num.specs.Constants.{two_over_pi, half_pi}
 use Rattle.fix_num.specs.Fixed.{rnd, one, floor_div, clamped, fix_times, fix_div, fix_sub, fix_mul, fix_sqrt}
-use Rattle.fix_trig.specs.declared.turn.Direction.{Direction}
-use Rattle.fix_trig.specs.Turn.{start, turned, direction_at}
-
--- 2 / pi, in quintillionths
-abbrev pub two_over_pi : ℕ
-two_over_pi = 636619772367581343
-
--- pi / 2, in quintillionths
-abbrev pub half_pi : ℕ
-half_pi = 1570796326794896619
+use Rattle.fix_trig.specs.Turn.{UnitVector, zero_direction, turned, direction_at}
 
 -- an angle in radians as a number of quarter turns
-abbrev pub quarters : ℤ → ℤ
-quarters x = fix_times x two_over_pi
+abbrev pub quarter_turns : ℤ → ℤ
+quarter_turns x = fix_times x two_over_pi
 
 -- in which quarter of the circle an angle in quarter turns lies, counted from 0
 abbrev pub quarter : ℕ → ℤ → ℕ
@@ -26,24 +18,24 @@ abbrev pub within_quarter : ℕ → ℤ → ℕ
 within_quarter F q = unsigned_abs (int_rem_euclid q (one F))
 
 -- the direction of an angle in quarter turns, turned back to the first quarter
-abbrev pub turned_back : ℕ → ℤ → Direction
+abbrev pub turned_back : ℕ → ℤ → UnitVector
 turned_back F q = direction_at F (within_quarter F q) F
 
 -- the sine in quarter n of the direction that is d once it is turned back to the first quarter
-abbrev pub sine_in : ℕ → Direction → ℤ
+abbrev pub sine_in : ℕ → UnitVector → ℤ
 sine_in n d = if n == 0 then d.y else if n == 1 then d.x else if n == 2 then neg_ℤ d.y else neg_ℤ d.x
 
 -- its cosine
-abbrev pub cosine_in : ℕ → Direction → ℤ
+abbrev pub cosine_in : ℕ → UnitVector → ℤ
 cosine_in n d = if n == 0 then d.x else if n == 1 then neg_ℤ d.y else if n == 2 then neg_ℤ d.x else d.y
 
 -- the sine of an angle in radians
 abbrev pub fix_sin : ℕ → ℤ → ℤ
-fix_sin F x = let q = quarters x in rnd (sine_in (quarter F q) (turned_back F q)) (pos (2 ^ (62 - F)))
+fix_sin F x = let q = quarter_turns x in rnd (sine_in (quarter F q) (turned_back F q)) (pos (2 ^ (62 - F)))
 
 -- the cosine of an angle in radians
 abbrev pub fix_cos : ℕ → ℤ → ℤ
-fix_cos F x = let q = quarters x in rnd (cosine_in (quarter F q) (turned_back F q)) (pos (2 ^ (62 - F)))
+fix_cos F x = let q = quarter_turns x in rnd (cosine_in (quarter F q) (turned_back F q)) (pos (2 ^ (62 - F)))
 
 -- the tangent of an angle in radians
 abbrev pub fix_tan : ℕ → ℤ → ℤ
@@ -51,20 +43,20 @@ fix_tan F x = fix_div F (fix_sin F x) (fix_cos F x)
 
 -- a direction on the way from (1, 0) to the point (u, v), and its angle in quarter turns, times 2^F
 pub record OnTheWay : Type 0 where
-  pub at : Direction
+  pub at : UnitVector
   pub angle : ℕ
 
 -- whether (u, v) lies in the direction d or beyond
-abbrev pub reaches : ℕ → ℕ → Direction → Bool
-reaches u v d = int_le (pos 0) (pos v *ℤ d.x -ℤ pos u *ℤ d.y)
+abbrev pub is_at_or_beyond : ℕ → ℕ → UnitVector → Bool
+is_at_or_beyond u v d = int_le (pos 0) (pos v *ℤ d.x -ℤ pos u *ℤ d.y)
 
 -- where the first n turns lead that are taken each time that (u, v) still lies beyond
 unfoldable pub found : ℕ → ℕ → ℕ → ℕ → OnTheWay
-found F u v zero = record { at = start; angle = 0 }
+found F u v zero = record { at = zero_direction; angle = 0 }
 found F u v (suc k) =
     let w = found F u v k in
     let d = turned k w.at in
-    if reaches u v d then record { at = d; angle = w.angle + 2 ^ (F - suc k) } else w
+    if is_at_or_beyond u v d then record { at = d; angle = w.angle + 2 ^ (F - suc k) } else w
 
 -- the search ends in the direction of the angle that it finds
 abbrev pub EndsAtItsAngle : Type 0

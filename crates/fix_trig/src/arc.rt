@@ -1,11 +1,12 @@
 //! The angles of points, and of sines, cosines and tangents.
 
-ghost use Rattle.std.specs.Prelude.{◌≡◌, ℕ, ℤ, pos, ◌-◌, ◌^◌, ◌<◌};
+ghost use Rattle.std.specs.Prelude.{◌≡◌, ℕ, ℤ, pos, ◌-◌, ◌*◌, ◌^◌, ◌<◌, ◌≤ℤ◌, ◌-ℤ◌, if◌then◌else◌};
 ghost use Rattle.fix_num.specs.Fixed.{IsRaw};
-ghost use Rattle.fix_trig.specs.Bound.{IsWithin};
-ghost use Rattle.fix_trig.specs.Angle.{fix_atan2, fix_asin, fix_acos, fix_atan, EndsAtItsAngle, found, reaches, unfolded, root_of_rest, clamped_to_one};
+ghost use Rattle.fix_trig.specs.Bound.{IsBounded};
+ghost use Rattle.fix_trig.specs.Means.{vector_of};
+ghost use Rattle.fix_trig.specs.Angle.{fix_atan2, fix_asin, fix_acos, fix_atan, EndsAtItsAngle, found, is_at_or_beyond, unfolded, root_of_rest, clamped_to_one};
 
-use crate::turn::{Direction, START, turn_by};
+use crate::turn::{START, UnitVector, turn_by, turns_fit};
 use fix_num::{FRACTION, Fix, HALF_PI};
 
 // The raw of 1.0, and of a quarter turn in quarter turns.
@@ -73,11 +74,12 @@ fn search(u: u64, v: u64) -> u64
     ensures value { result ≡ (found FRACTION u v FRACTION).angle }
     ensures within { result < 2 ^ FRACTION }
 {
+    turns_fit();
     let mut at = START;
     let mut angle = 0;
-    for k in 0..FRACTION {
+    'bits: for k in 0..FRACTION {
         let next = turn_by(at, k);
-        if reaches(u, v, next) {
+        if is_at_or_beyond(u, v, next) {
             at = next;
             angle += 1 << (FRACTION - 1 - k);
         }
@@ -86,27 +88,34 @@ fn search(u: u64, v: u64) -> u64
 }
 
 // Whether the point (u, v) lies in this direction or beyond.
-fn reaches(u: u64, v: u64, direction: Direction) -> bool
+fn is_at_or_beyond(u: u64, v: u64, direction: UnitVector) -> bool
     requires long { u < 2 ^ 63 }
     requires short { v < 2 ^ 63 }
-    requires within { IsWithin (2 ^ 64 - 1) direction }
-    ensures { result ≡ reaches u v direction }
+    requires within { IsBounded (2 ^ 64 - 1) (vector_of direction) }
+    ensures { result ≡ is_at_or_beyond u v (vector_of direction) }
 {
     u as i128 * direction.y <= v as i128 * direction.x
 }
 
 // The angle in quarter turns of the point (x, y), from that of the longer side and the shorter one.
+#[tactic(auto, unfolding(crate::specs::Angle::unfolded))]
 fn unfolded(angle: u64, y: i64, x: i64) -> i64
     requires { angle < 2 ^ FRACTION }
     ensures value { result ≡ unfolded FRACTION (pos angle) y x }
     ensures raw { IsRaw result }
 {
-    let near = angle as i64;
-    let right = if x.unsigned_abs() < y.unsigned_abs() {
-        ONE - near
-    } else {
-        near
-    };
-    let up = if x < 0 { 2 * ONE - right } else { right };
-    if y < 0 { -up } else { up }
+    let near = mirrored(x.unsigned_abs() < y.unsigned_abs(), ONE, angle as i64);
+    let right = mirrored(x < 0, 2 * ONE, near);
+    if y < 0 { -right } else { right }
+}
+
+// What an angle leaves of a greater one, where it is mirrored.
+fn mirrored(is_mirrored: bool, whole: i64, angle: i64) -> i64
+    requires some { pos 0 ≤ℤ angle }
+    requires within { angle ≤ℤ whole }
+    ensures value { result ≡ (if is_mirrored then whole -ℤ angle else angle) }
+    ensures some { pos 0 ≤ℤ result }
+    ensures within { result ≤ℤ whole }
+{
+    if is_mirrored { whole - angle } else { angle }
 }

@@ -2,23 +2,24 @@
 
 ghost use Rattle.std.specs.Prelude.{◌≡◌, ℕ, ℤ, pos, ◌-◌, ◌^◌, ◌<◌, unsigned_abs};
 ghost use Rattle.fix_num.specs.Fixed.{rnd};
-ghost use Rattle.fix_trig.specs.Angle.{fix_sin, fix_cos, fix_tan, quarters, quarter, within_quarter};
+ghost use Rattle.fix_trig.specs.Angle.{fix_sin, fix_cos, fix_tan, quarter_turns, quarter, within_quarter};
 ghost use Rattle.fix_trig.specs.Turn.{direction_at};
-ghost use Rattle.fix_trig.specs.Bound.{IsWithin};
+ghost use Rattle.fix_trig.specs.Bound.{IsBounded};
+ghost use Rattle.fix_trig.specs.Means.{vector_of};
 
-use crate::turn::{Direction, direction_of};
-use fix_num::{FRACTION, Fix, TWO_OVER_PI, rnd_shift};
+use crate::turn::{UnitVector, direction_of};
+use fix_num::{FRACTION, Fix, TWO_OVER_PI, rnd_shift, rounding_keeps_bounds};
 
 /// The sine of an angle in radians.
 pub fn sin(x: Fix) -> Fix
     ensures { result ≡ fix_sin FRACTION x }
 {
-    let place = locate(x);
-    match place.quarter {
-        0 => shortened(place.at.y),
-        1 => shortened(place.at.x),
-        2 => shortened(-place.at.y),
-        _ => shortened(-place.at.x),
+    let position = locate(x);
+    match position.quarter {
+        0 => shortened(position.at.y),
+        1 => shortened(position.at.x),
+        2 => shortened(-position.at.y),
+        _ => shortened(-position.at.x),
     }
 }
 
@@ -26,12 +27,12 @@ pub fn sin(x: Fix) -> Fix
 pub fn cos(x: Fix) -> Fix
     ensures { result ≡ fix_cos FRACTION x }
 {
-    let place = locate(x);
-    match place.quarter {
-        0 => shortened(place.at.x),
-        1 => shortened(-place.at.y),
-        2 => shortened(-place.at.x),
-        _ => shortened(place.at.y),
+    let position = locate(x);
+    match position.quarter {
+        0 => shortened(position.at.x),
+        1 => shortened(-position.at.y),
+        2 => shortened(-position.at.x),
+        _ => shortened(position.at.y),
     }
 }
 
@@ -44,21 +45,21 @@ pub fn tan(x: Fix) -> Fix
 
 // Where an angle lies: in which quarter of the circle, and in which direction once it is turned back to the first.
 #[derive(Drop)]
-struct Place {
+struct Position {
     quarter: u64,
-    at: Direction,
+    at: UnitVector,
 }
 
-fn locate(x: Fix) -> Place
-    ensures quarter { result.quarter ≡ quarter FRACTION (quarters x) }
+fn locate(x: Fix) -> Position
+    ensures quarter { result.quarter ≡ quarter FRACTION (quarter_turns x) }
     ensures last { result.quarter < 4 }
-    ensures at { result.at ≡ direction_at FRACTION (within_quarter FRACTION (quarters x)) FRACTION }
-    ensures within { IsWithin (2 ^ 64 - 1) result.at }
+    ensures at { vector_of result.at ≡ direction_at FRACTION (within_quarter FRACTION (quarter_turns x)) FRACTION }
+    ensures within { IsBounded (2 ^ 64 - 1) (vector_of result.at) }
 {
-    let quarters = x.times(TWO_OVER_PI).raw();
-    Place {
-        quarter: quarters.div_euclid(1 << FRACTION).rem_euclid(4) as u64,
-        at: direction_of(quarters.rem_euclid(1 << FRACTION) as u64),
+    let turns = x.times(TWO_OVER_PI).raw();
+    Position {
+        quarter: turns.div_euclid(1 << FRACTION).rem_euclid(4) as u64,
+        at: direction_of(turns.rem_euclid(1 << FRACTION) as u64),
     }
 }
 
@@ -67,5 +68,6 @@ fn shortened(part: i128) -> Fix
     requires { unsigned_abs part < 2 ^ 64 }
     ensures { result ≡ rnd part (pos (2 ^ (62 - FRACTION))) }
 {
+    rounding_keeps_bounds();
     Fix::from_raw(rnd_shift(part, 62 - FRACTION) as i64)
 }

@@ -2,4 +2,3 @@
 
 mod cases;
 mod tables;
-mod worked;

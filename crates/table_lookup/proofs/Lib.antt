@@ -1,4 +1,4 @@
 -- The lemmas of this crate.
-pub mod Intervals
-pub mod Minors
-pub mod Sizes
+mod Intervals
+mod Minors
+mod Sizes

@@ -3,3 +3,5 @@ pub mod Between
 pub mod Colour
 pub mod Matrix
 pub mod Tables
+-- Means of the crate alone, which no public contract cites.
+pub mod Means

@@ -2,8 +2,7 @@
 use Rattle.std.specs.Prelude.{ℕ, ℤ, pos, ◌+◌, ◌-◌, ◌*◌, ◌-ℤ◌, ◌*ℤ◌, int_lt, int_le, ◌==◌, if◌then◌else◌, List, [], ◌∷◌, length, get_or, drop}
 use Rattle.std.specs.List.{position_or_len}
 use Rattle.fix_num.specs.Fixed.{rnd, one, fix_sub, fix_mul, fix_div}
-use Rattle.table_lookup.specs.declared.axis.Place.{Place}
-use Rattle.table_lookup.specs.Between.{mix, axis, hermite, half_difference, half_sum}
+use Rattle.table_lookup.specs.Between.{Segment, mix, axis, hermite, half_difference, half_sum}
 
 -- ---- entries that are spread evenly
 
@@ -11,13 +10,13 @@ use Rattle.table_lookup.specs.Between.{mix, axis, hermite, half_difference, half
 abbrev pub entry : List ℤ → ℕ → ℤ
 entry t i = get_or t i (pos 0)
 
--- between the two entries of a place
-abbrev pub line_at : ℕ → List ℤ → Place → ℤ
-line_at F t a = mix F (entry t a.low) (entry t a.high) a.part
+-- between the two entries of a segment
+abbrev pub mix_at : ℕ → List ℤ → Segment → ℤ
+mix_at F t a = mix F (entry t a.low) (entry t a.high) a.part
 
 -- the line through the entries of t, spread evenly from lo to hi, at p
 unfoldable pub lookup1 : ℕ → List ℤ → ℤ → ℤ → ℤ → ℤ
-lookup1 F t lo hi p = line_at F t (axis F (length t) lo hi p)
+lookup1 F t lo hi p = mix_at F t (axis F (length t) lo hi p)
 
 -- the slope at entry k of at least two: to the neighbour at an end, else half of what lies between the two neighbours
 unfoldable pub slope : List ℤ → ℕ → ℤ
@@ -26,8 +25,8 @@ slope t k =
     else (if k == length t - 1 then fix_sub (entry t k) (entry t (k - 1))
     else half_difference (entry t (k + 1)) (entry t (k - 1)))
 
--- the first entry where a place is one entry, else the cubic between its two entries
-abbrev pub curve_at : ℕ → List ℤ → Place → ℤ
+-- the first entry where a segment is one entry, else the cubic between its two entries
+abbrev pub curve_at : ℕ → List ℤ → Segment → ℤ
 curve_at F t a =
     if a.low == a.high then entry t 0
     else hermite F (entry t a.low) (entry t a.high) (slope t a.low) (slope t a.high) a.part
@@ -62,19 +61,19 @@ unfoldable pub interval : List Pair → ℤ → ℕ
 interval es p = position_or_len (λ e. int_lt p e.x) (drop 1 es)
 
 -- how far p lies on the way from a to b
-unfoldable pub share : ℕ → ℤ → ℤ → ℤ → ℤ
-share F a b p = rnd ((p -ℤ a) *ℤ one F) (b -ℤ a)
+unfoldable pub part_between : ℕ → ℤ → ℤ → ℤ → ℤ
+part_between F a b p = rnd ((p -ℤ a) *ℤ one F) (b -ℤ a)
 
 -- the line from pair i to the next, at p
-unfoldable pub line_from : ℕ → List Pair → ℤ → ℕ → ℤ
-line_from F es p i = mix F (pair es i).y (pair es (i + 1)).y (share F (pair es i).x (pair es (i + 1)).x p)
+unfoldable pub mix_from : ℕ → List Pair → ℤ → ℕ → ℤ
+mix_from F es p i = mix F (pair es i).y (pair es (i + 1)).y (part_between F (pair es i).x (pair es (i + 1)).x p)
 
 -- the line through the pairs at p, and beyond them the y at that end
 unfoldable pub interp1 : ℕ → List Pair → ℤ → ℤ
 interp1 F es p =
     if int_le p (pair es 0).x then (pair es 0).y
     else (if int_le (last_pair es).x p then (last_pair es).y
-    else line_from F es p (interval es p))
+    else mix_from F es p (interval es p))
 
 -- the slope of the line from pair k to the next
 unfoldable pub secant : ℕ → List Pair → ℕ → ℤ
@@ -93,7 +92,7 @@ scaled_slope F es i k = fix_mul F (pair_slope F es k) (fix_sub (pair es (i + 1))
 
 -- the cubic from pair i to the next, at p
 unfoldable pub curve_from : ℕ → List Pair → ℤ → ℕ → ℤ
-curve_from F es p i = hermite F (pair es i).y (pair es (i + 1)).y (scaled_slope F es i i) (scaled_slope F es i (i + 1)) (share F (pair es i).x (pair es (i + 1)).x p)
+curve_from F es p i = hermite F (pair es i).y (pair es (i + 1)).y (scaled_slope F es i i) (scaled_slope F es i (i + 1)) (part_between F (pair es i).x (pair es (i + 1)).x p)
 
 -- the curve through the pairs at p, and beyond them the y at that end
 unfoldable pub interp_cubic1 : ℕ → List Pair → ℤ → ℤ
@@ -110,19 +109,19 @@ abbrev pub channel : ℕ → ℕ → List ℤ → ℕ → ℕ → ℕ → ℕ �
 channel n1 n2 t c i j k = entry t (3 * ((i * n1 + j) * n2 + k) + c)
 
 -- along the last index
-unfoldable pub along_last : ℕ → (ℕ → ℕ → ℕ → ℤ) → Place → ℕ → ℕ → ℤ
+unfoldable pub along_last : ℕ → (ℕ → ℕ → ℕ → ℤ) → Segment → ℕ → ℕ → ℤ
 along_last F g last i j = mix F (g i j last.low) (g i j last.high) last.part
 
 -- then along the middle one
-unfoldable pub along_middle : ℕ → (ℕ → ℕ → ℕ → ℤ) → Place → Place → ℕ → ℤ
+unfoldable pub along_middle : ℕ → (ℕ → ℕ → ℕ → ℤ) → Segment → Segment → ℕ → ℤ
 along_middle F g middle last i = mix F (along_last F g last i middle.low) (along_last F g last i middle.high) middle.part
 
 -- then along the first
-unfoldable pub along_first : ℕ → (ℕ → ℕ → ℕ → ℤ) → Place → Place → Place → ℤ
+unfoldable pub along_first : ℕ → (ℕ → ℕ → ℕ → ℤ) → Segment → Segment → Segment → ℤ
 along_first F g first middle last = mix F (along_middle F g middle last first.low) (along_middle F g middle last first.high) first.part
 
--- the place in one index, of which the entries are spread evenly from the word of lo to that of hi
-abbrev pub axis_of : ℕ → ℕ → List ℤ → List ℤ → List ℤ → ℕ → Place
+-- the segment in one index, of which the entries are spread evenly from the word of lo to that of hi
+abbrev pub axis_of : ℕ → ℕ → List ℤ → List ℤ → List ℤ → ℕ → Segment
 axis_of F n lo hi p index = axis F n (entry lo index) (entry hi index) (entry p index)
 
 -- one channel at the point p

@@ -2,14 +2,16 @@
 
 ghost use Rattle.std.specs.Prelude.{◌≡◌, ℤ, pos, ◌-◌, ◌+◌, ◌*◌, ◌^◌, ◌<◌, ◌≤◌, ◌≤ℤ◌, ◌<ℤ◌, ◌-ℤ◌, int_lt, int_le, unsigned_abs};
 ghost use Rattle.fix_num.specs.Fixed.{clamped};
-ghost use Rattle.table_lookup.specs.Between.{mix, distance, axis, IsPlace};
+ghost use Rattle.table_lookup.specs.Between.{mix, steps_before, axis};
+ghost use Rattle.table_lookup.specs.Means.{IsSegment, segment_of};
 
 use crate::{ONE, ONE_64};
-use fix_num::{FRACTION, Fix, rnd, rnd_shift, saturated};
+use ctl_base::limits::SCALARS;
+use fix_num::{FRACTION, Fix, rnd, rnd_shift, rounding_keeps_bounds, saturated};
 
-/// A place between two entries: their indices, and how far it lies from the first to the second.
-#[derive(Debug, Drop)]
-pub struct Place {
+/// Where a number lies between two entries: their indices, and how far from the first to the second.
+#[derive(Drop)]
+pub struct Segment {
     pub low: usize,
     pub high: usize,
     pub part: Fix,
@@ -35,43 +37,45 @@ pub fn mix(a: Fix, b: Fix, f: Fix) -> Fix
     requires high { f ≤ℤ pos (2 ^ FRACTION) }
     ensures { result ≡ mix FRACTION a b f }
 {
+    rounding_keeps_bounds();
     let part = wide(f);
     let step = rnd_shift(span(a, b) * part, FRACTION);
     saturated(wide(a) + step)
 }
 
-/// The place of p among n entries that are spread evenly from lo to hi.
+/// The segment of p among n entries that are spread evenly from lo to hi.
 #[tactic(auto, unfolding(crate::specs::Between::axis))]
-pub fn axis(n: usize, lo: Fix, hi: Fix, p: Fix) -> Place
+pub fn axis(n: usize, lo: Fix, hi: Fix, p: Fix) -> Segment
     requires some { 0 < n }
-    requires few { n ≤ 2 ^ 20 }
-    ensures value { result ≡ axis FRACTION n lo hi p }
-    ensures place { IsPlace FRACTION n result }
+    requires few { n ≤ SCALARS }
+    ensures value { segment_of result ≡ axis FRACTION n lo hi p }
+    ensures segment { IsSegment FRACTION n (segment_of result) }
 {
     if n == 1 || !less(lo, hi) {
-        return Place {
+        return Segment {
             low: 0,
             high: 0,
             part: Fix::from_raw(0),
         };
     }
-    let behind = distance(n, lo, hi, p);
+    let behind = steps_before(n, lo, hi, p);
     let low = (behind / ONE_64).min(n as u64 - 2);
-    Place {
+    Segment {
         low: low as usize,
         high: low as usize + 1,
         part: Fix::from_raw((behind - low * ONE_64) as i64),
     }
 }
 
-// How many steps from entry to entry, as a raw, p lies behind the first entry.
-fn distance(n: usize, lo: Fix, hi: Fix, p: Fix) -> u64
+// How many steps from entry to entry, as a raw, lie before p.
+fn steps_before(n: usize, lo: Fix, hi: Fix, p: Fix) -> u64
     requires some { 2 ≤ n }
-    requires few { n ≤ 2 ^ 20 }
+    requires few { n ≤ SCALARS }
     requires rising { lo <ℤ hi }
-    ensures value { pos result ≡ distance FRACTION n lo hi p }
+    ensures value { pos result ≡ steps_before FRACTION n lo hi p }
     ensures most { result ≤ (n - 1) * 2 ^ FRACTION }
 {
+    rounding_keeps_bounds();
     let steps = within(lo, hi, p) * (n - 1) as i128;
     rnd(steps * ONE, span(lo, hi)) as u64
 }

@@ -1,10 +1,11 @@
 //! Tables of triples in three indices.
 
-ghost use Rattle.std.specs.Prelude.{◌≡◌, ℕ, ℤ, pos, ◌+◌, ◌*◌, ◌^◌, ◌<◌, ◌≤◌, ◌≤ℤ◌, length};
+ghost use Rattle.std.specs.Prelude.{◌≡◌, ℕ, ℤ, pos, ◌+◌, ◌*◌, ◌<◌, ◌≤◌, length};
 ghost use Rattle.table_lookup.specs.Tables.{lookup3, channel, along_last, along_middle, along_first};
-ghost use Rattle.table_lookup.specs.Between.{IsPlace};
+ghost use Rattle.table_lookup.specs.Means.{IsSegment, segment_of};
 
-use crate::axis::{Place, axis, mix};
+use crate::axis::{Segment, axis, mix};
+use ctl_base::limits::{ARRAY_SIZE, SCALARS};
 use fix_num::{FRACTION, Fix};
 
 /// The three numbers at the point p of a table of n0 by n1 by n2 triples, which are spread evenly
@@ -20,11 +21,11 @@ pub fn lookup3(
     p: &[Fix],
     out: &mut [Fix],
 )
-    requires first { (1 ≤ n0) × (n0 ≤ 65536) }
-    requires middle { (1 ≤ n1) × (n1 ≤ 65536) }
-    requires last { (1 ≤ n2) × (n2 ≤ 65536) }
+    requires first { (1 ≤ n0) × (n0 ≤ ARRAY_SIZE) }
+    requires middle { (1 ≤ n1) × (n1 ≤ ARRAY_SIZE) }
+    requires last { (1 ≤ n2) × (n2 ≤ ARRAY_SIZE) }
     requires size { length t.now ≡ 3 * n0 * n1 * n2 }
-    requires few { length t.now ≤ 2 ^ 20 }
+    requires few { length t.now ≤ SCALARS }
     requires low { length lo.now ≡ 3 }
     requires high { length hi.now ≡ 3 }
     requires point { length p.now ≡ 3 }
@@ -54,48 +55,55 @@ struct Grid {
     last: usize,
 }
 
-// One channel between the two planes of a place in the first index.
+// One channel between the two planes of a segment in the first index.
 #[tactic(auto, unfolding(crate::specs::Tables::along_first))]
-fn along_first(t: &[Fix], grid: &Grid, first: &Place, middle: &Place, last: &Place, c: usize) -> Fix
+fn along_first(
+    t: &[Fix],
+    grid: &Grid,
+    first: &Segment,
+    middle: &Segment,
+    last: &Segment,
+    c: usize,
+) -> Fix
     requires size { length t.now ≡ 3 * grid.now.first * grid.now.middle * grid.now.last }
-    requires few { length t.now ≤ 2 ^ 20 }
-    requires on_first { IsPlace FRACTION grid.now.first first.now }
-    requires on_middle { IsPlace FRACTION grid.now.middle middle.now }
-    requires on_last { IsPlace FRACTION grid.now.last last.now }
+    requires few { length t.now ≤ SCALARS }
+    requires on_first { IsSegment FRACTION grid.now.first (segment_of first.now) }
+    requires on_middle { IsSegment FRACTION grid.now.middle (segment_of middle.now) }
+    requires on_last { IsSegment FRACTION grid.now.last (segment_of last.now) }
     requires channel { c < 3 }
-    ensures { result ≡ along_first FRACTION (channel grid.now.middle grid.now.last t.now c) first.now middle.now last.now }
+    ensures { result ≡ along_first FRACTION (channel grid.now.middle grid.now.last t.now c) (segment_of first.now) (segment_of middle.now) (segment_of last.now) }
 {
     let low = along_middle(t, grid, middle, last, first.low, c);
     let high = along_middle(t, grid, middle, last, first.high, c);
     mix(low, high, first.part)
 }
 
-// One channel between the two rows of a place in the middle index.
+// One channel between the two rows of a segment in the middle index.
 #[tactic(auto, unfolding(crate::specs::Tables::along_middle))]
-fn along_middle(t: &[Fix], grid: &Grid, middle: &Place, last: &Place, i: usize, c: usize) -> Fix
+fn along_middle(t: &[Fix], grid: &Grid, middle: &Segment, last: &Segment, i: usize, c: usize) -> Fix
     requires size { length t.now ≡ 3 * grid.now.first * grid.now.middle * grid.now.last }
-    requires few { length t.now ≤ 2 ^ 20 }
-    requires on_middle { IsPlace FRACTION grid.now.middle middle.now }
-    requires on_last { IsPlace FRACTION grid.now.last last.now }
+    requires few { length t.now ≤ SCALARS }
+    requires on_middle { IsSegment FRACTION grid.now.middle (segment_of middle.now) }
+    requires on_last { IsSegment FRACTION grid.now.last (segment_of last.now) }
     requires plane { i < grid.now.first }
     requires channel { c < 3 }
-    ensures { result ≡ along_middle FRACTION (channel grid.now.middle grid.now.last t.now c) middle.now last.now i }
+    ensures { result ≡ along_middle FRACTION (channel grid.now.middle grid.now.last t.now c) (segment_of middle.now) (segment_of last.now) i }
 {
     let low = along_last(t, grid, last, i, middle.low, c);
     let high = along_last(t, grid, last, i, middle.high, c);
     mix(low, high, middle.part)
 }
 
-// One channel between the two entries of a place in the last index.
+// One channel between the two entries of a segment in the last index.
 #[tactic(auto, unfolding(crate::specs::Tables::along_last))]
-fn along_last(t: &[Fix], grid: &Grid, last: &Place, i: usize, j: usize, c: usize) -> Fix
+fn along_last(t: &[Fix], grid: &Grid, last: &Segment, i: usize, j: usize, c: usize) -> Fix
     requires size { length t.now ≡ 3 * grid.now.first * grid.now.middle * grid.now.last }
-    requires few { length t.now ≤ 2 ^ 20 }
-    requires on_last { IsPlace FRACTION grid.now.last last.now }
+    requires few { length t.now ≤ SCALARS }
+    requires on_last { IsSegment FRACTION grid.now.last (segment_of last.now) }
     requires plane { i < grid.now.first }
     requires row { j < grid.now.middle }
     requires channel { c < 3 }
-    ensures { result ≡ along_last FRACTION (channel grid.now.middle grid.now.last t.now c) last.now i j }
+    ensures { result ≡ along_last FRACTION (channel grid.now.middle grid.now.last t.now c) (segment_of last.now) i j }
 {
     let low = word(t, grid, i, j, last.low, c);
     let high = word(t, grid, i, j, last.high, c);
@@ -105,7 +113,7 @@ fn along_last(t: &[Fix], grid: &Grid, last: &Place, i: usize, j: usize, c: usize
 // One channel of an entry.
 fn word(t: &[Fix], grid: &Grid, i: usize, j: usize, k: usize, c: usize) -> Fix
     requires size { length t.now ≡ 3 * grid.now.first * grid.now.middle * grid.now.last }
-    requires few { length t.now ≤ 2 ^ 20 }
+    requires few { length t.now ≤ SCALARS }
     requires plane { i < grid.now.first }
     requires row { j < grid.now.middle }
     requires column { k < grid.now.last }

@@ -12,7 +12,7 @@ pub fn add_entries(a: &[Fix], b: &[Fix], out: &mut [Fix])
     requires room { length a.now ≡ length out.old }
     ensures { out.new ≡ sums a.now b.now }
 {
-    for i in 0..a.len() {
+    'entries: for i in 0..a.len() {
         out[i] = a[i].add(b[i]);
     }
 }
@@ -22,7 +22,7 @@ pub fn scale_entries(f: Fix, m: &[Fix], out: &mut [Fix])
     requires room { length m.now ≡ length out.old }
     ensures { out.new ≡ scaled FRACTION f m.now }
 {
-    for i in 0..m.len() {
+    'entries: for i in 0..m.len() {
         out[i] = f.mul(m[i]);
     }
 }

@@ -1,19 +1,20 @@
 //! Tables of pairs, each of an x where the entry lies and of a y.
 
 ghost use Rattle.std.specs.Prelude.{◌≡◌, ℕ, ℤ, pos, ◌+◌, ◌-◌, ◌*◌, ◌/◌, ◌%◌, ◌^◌, ◌<◌, ◌≤◌, ◌≤ℤ◌, ◌<ℤ◌, length};
-ghost use Rattle.table_lookup.specs.Tables.{pairs, pair, interval, share, secant, pair_slope, line_from, curve_from, interp1, interp_cubic1};
+ghost use Rattle.table_lookup.specs.Tables.{pairs, pair, interval, part_between, secant, pair_slope, mix_from, curve_from, interp1, interp_cubic1};
 
 use crate::ONE;
 use crate::axis::{at_most, less, mix, span};
 use crate::curve::{half_sum, hermite};
-use fix_num::{FRACTION, Fix, rnd};
+use ctl_base::limits::SCALARS;
+use fix_num::{FRACTION, Fix, rnd, rounding_keeps_bounds};
 
 /// The number at p of the line through the pairs, each an x and then its y, of a flat table.
 /// Beyond the first and the last x it is the y at that end.
 #[tactic(auto, unfolding(crate::specs::Tables::interp1))]
 pub fn interp1(t: &[Fix], p: Fix) -> Fix
     requires some { 0 < length t.now }
-    requires few { length t.now ≤ 2 ^ 20 }
+    requires few { length t.now ≤ SCALARS }
     requires even { length t.now % 2 ≡ 0 }
     ensures { result ≡ interp1 FRACTION (pairs t.now) p }
 {
@@ -23,7 +24,7 @@ pub fn interp1(t: &[Fix], p: Fix) -> Fix
     } else if at_most(x(t, last), p) {
         y(t, last)
     } else {
-        line_from(t, p, interval(t, p))
+        mix_from(t, p, interval(t, p))
     }
 }
 
@@ -32,7 +33,7 @@ pub fn interp1(t: &[Fix], p: Fix) -> Fix
 #[tactic(auto, unfolding(crate::specs::Tables::interp_cubic1))]
 pub fn interp_cubic1(t: &[Fix], p: Fix) -> Fix
     requires some { 0 < length t.now }
-    requires few { length t.now ≤ 2 ^ 20 }
+    requires few { length t.now ≤ SCALARS }
     requires even { length t.now % 2 ≡ 0 }
     ensures { result ≡ interp_cubic1 FRACTION (pairs t.now) p }
 {
@@ -48,7 +49,7 @@ pub fn interp_cubic1(t: &[Fix], p: Fix) -> Fix
 
 // How many pairs there are.
 fn count(t: &[Fix]) -> usize
-    requires { length t.now ≤ 2 ^ 20 }
+    requires { length t.now ≤ SCALARS }
     ensures value { result ≡ length (pairs t.now) }
     ensures half { result ≡ length t.now / 2 }
 {
@@ -56,22 +57,22 @@ fn count(t: &[Fix]) -> usize
 }
 
 // The line from pair i to the next, at p.
-#[tactic(auto, unfolding(crate::specs::Tables::line_from))]
-fn line_from(t: &[Fix], p: Fix, i: usize) -> Fix
+#[tactic(auto, unfolding(crate::specs::Tables::mix_from))]
+fn mix_from(t: &[Fix], p: Fix, i: usize) -> Fix
     requires inside { 2 * i + 3 < length t.now }
-    requires few { length t.now ≤ 2 ^ 20 }
+    requires few { length t.now ≤ SCALARS }
     requires low { (pair (pairs t.now) i).x ≤ℤ p }
     requires high { p <ℤ (pair (pairs t.now) (i + 1)).x }
-    ensures { result ≡ line_from FRACTION (pairs t.now) p i }
+    ensures { result ≡ mix_from FRACTION (pairs t.now) p i }
 {
-    mix(y(t, i), y(t, i + 1), share(x(t, i), x(t, i + 1), p))
+    mix(y(t, i), y(t, i + 1), part_between(x(t, i), x(t, i + 1), p))
 }
 
 // The cubic from pair i to the next, at p.
 #[tactic(auto, unfolding(crate::specs::Tables::curve_from))]
 fn curve_from(t: &[Fix], p: Fix, i: usize) -> Fix
     requires inside { 2 * i + 3 < length t.now }
-    requires few { length t.now ≤ 2 ^ 20 }
+    requires few { length t.now ≤ SCALARS }
     requires even { length t.now % 2 ≡ 0 }
     requires low { (pair (pairs t.now) i).x ≤ℤ p }
     requires high { p <ℤ (pair (pairs t.now) (i + 1)).x }
@@ -85,14 +86,14 @@ fn curve_from(t: &[Fix], p: Fix, i: usize) -> Fix
         y(t, i + 1),
         leaving,
         arriving,
-        share(x(t, i), x(t, i + 1), p),
+        part_between(x(t, i), x(t, i + 1), p),
     )
 }
 
 // The x of pair i.
 fn x(t: &[Fix], i: usize) -> Fix
     requires inside { 2 * i + 1 < length t.now }
-    requires few { length t.now ≤ 2 ^ 20 }
+    requires few { length t.now ≤ SCALARS }
     ensures { result ≡ (pair (pairs t.now) i).x }
 {
     t[2 * i]
@@ -101,7 +102,7 @@ fn x(t: &[Fix], i: usize) -> Fix
 // The y of pair i.
 fn y(t: &[Fix], i: usize) -> Fix
     requires inside { 2 * i + 1 < length t.now }
-    requires few { length t.now ≤ 2 ^ 20 }
+    requires few { length t.now ≤ SCALARS }
     ensures { result ≡ (pair (pairs t.now) i).y }
 {
     t[2 * i + 1]
@@ -110,7 +111,7 @@ fn y(t: &[Fix], i: usize) -> Fix
 // The least i such that p lies below the x of pair i + 1.
 fn interval(t: &[Fix], p: Fix) -> usize
     requires some { 4 ≤ length t.now }
-    requires few { length t.now ≤ 2 ^ 20 }
+    requires few { length t.now ≤ SCALARS }
     requires even { length t.now % 2 ≡ 0 }
     requires first { (pair (pairs t.now) 0).x <ℤ p }
     requires last { p <ℤ (pair (pairs t.now) (length t.now / 2 - 1)).x }
@@ -120,7 +121,7 @@ fn interval(t: &[Fix], p: Fix) -> usize
     ensures high { p <ℤ (pair (pairs t.now) (result + 1)).x }
 {
     let last = t.len() / 2 - 2;
-    for i in 0..last {
+    'pairs: for i in 0..last {
         if less(p, x(t, i + 1)) {
             return i;
         }
@@ -129,13 +130,14 @@ fn interval(t: &[Fix], p: Fix) -> usize
 }
 
 // How far p lies on the way from a to b.
-fn share(a: Fix, b: Fix, p: Fix) -> Fix
+fn part_between(a: Fix, b: Fix, p: Fix) -> Fix
     requires low { a ≤ℤ p }
     requires high { p <ℤ b }
-    ensures value { result ≡ share FRACTION a b p }
+    ensures value { result ≡ part_between FRACTION a b p }
     ensures from { pos 0 ≤ℤ result }
     ensures to { result ≤ℤ pos (2 ^ FRACTION) }
 {
+    rounding_keeps_bounds();
     let width = span(a, b);
     let part = rnd(span(a, p) * ONE, width);
     Fix::from_raw(part as i64)
@@ -145,7 +147,7 @@ fn share(a: Fix, b: Fix, p: Fix) -> Fix
 #[tactic(auto, unfolding(crate::specs::Tables::secant))]
 fn secant(t: &[Fix], k: usize) -> Fix
     requires inside { 2 * k + 3 < length t.now }
-    requires few { length t.now ≤ 2 ^ 20 }
+    requires few { length t.now ≤ SCALARS }
     ensures { result ≡ secant FRACTION (pairs t.now) k }
 {
     y(t, k + 1).sub(y(t, k)).div(x(t, k + 1).sub(x(t, k)))
@@ -156,7 +158,7 @@ fn secant(t: &[Fix], k: usize) -> Fix
 fn slope(t: &[Fix], k: usize) -> Fix
     requires some { 4 ≤ length t.now }
     requires inside { 2 * k + 1 < length t.now }
-    requires few { length t.now ≤ 2 ^ 20 }
+    requires few { length t.now ≤ SCALARS }
     requires even { length t.now % 2 ≡ 0 }
     ensures { result ≡ pair_slope FRACTION (pairs t.now) k }
 {

@@ -1,10 +1,11 @@
 //! Tables whose entries are spread evenly over a range.
 
-ghost use Rattle.std.specs.Prelude.{◌≡◌, ℤ, ◌<◌, ◌≤◌, ◌^◌, length};
+ghost use Rattle.std.specs.Prelude.{◌≡◌, ℤ, ◌<◌, ◌≤◌, length};
 ghost use Rattle.table_lookup.specs.Tables.{lookup1, lookup_cubic1, slope};
 
 use crate::axis::{axis, mix};
 use crate::curve::{half_difference, hermite};
+use ctl_base::limits::SCALARS;
 use fix_num::{FRACTION, Fix};
 
 /// The number at p of the line through the entries, which are spread evenly from lo to hi.
@@ -12,11 +13,11 @@ use fix_num::{FRACTION, Fix};
 #[tactic(auto, unfolding(crate::specs::Tables::lookup1))]
 pub fn lookup1(t: &[Fix], lo: Fix, hi: Fix, p: Fix) -> Fix
     requires some { 0 < length t.now }
-    requires few { length t.now ≤ 2 ^ 20 }
+    requires few { length t.now ≤ SCALARS }
     ensures { result ≡ lookup1 FRACTION t.now lo hi p }
 {
-    let place = axis(t.len(), lo, hi, p);
-    mix(t[place.low], t[place.high], place.part)
+    let segment = axis(t.len(), lo, hi, p);
+    mix(t[segment.low], t[segment.high], segment.part)
 }
 
 /// The number at p of the smooth curve through the entries, which are spread evenly from lo to hi.
@@ -24,16 +25,22 @@ pub fn lookup1(t: &[Fix], lo: Fix, hi: Fix, p: Fix) -> Fix
 #[tactic(auto, unfolding(crate::specs::Tables::lookup_cubic1))]
 pub fn lookup_cubic1(t: &[Fix], lo: Fix, hi: Fix, p: Fix) -> Fix
     requires some { 0 < length t.now }
-    requires few { length t.now ≤ 2 ^ 20 }
+    requires few { length t.now ≤ SCALARS }
     ensures { result ≡ lookup_cubic1 FRACTION t.now lo hi p }
 {
-    let place = axis(t.len(), lo, hi, p);
-    if place.low == place.high {
+    let segment = axis(t.len(), lo, hi, p);
+    if segment.low == segment.high {
         return t[0];
     }
-    let leaving = slope(t, place.low);
-    let arriving = slope(t, place.high);
-    hermite(t[place.low], t[place.high], leaving, arriving, place.part)
+    let leaving = slope(t, segment.low);
+    let arriving = slope(t, segment.high);
+    hermite(
+        t[segment.low],
+        t[segment.high],
+        leaving,
+        arriving,
+        segment.part,
+    )
 }
 
 // The slope of the curve at entry k.

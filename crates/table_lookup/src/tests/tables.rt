@@ -1,8 +1,9 @@
 //! Cases at the edges, computed with exact integers and fractions.
 //!
-//! Made by `python3 tools/table_lookup_cases.py` and laid out by `rt fmt`.
+//! Printed by tools/table_lookup_tables.py.
 
-pub(super) const FIVE: [i64; 5] = [
+// Five entries.
+pub(super) static FIVE: [i64; 5] = [
     429496730,
     -10737418240,
     30064771072,
@@ -10,7 +11,8 @@ pub(super) const FIVE: [i64; 5] = [
     4294967296000000000,
 ];
 
-pub(super) const SPREAD: [(i64, i64, i64, i64, i64); 26] = [
+// The ends of a range, a number, and what lookup1 and lookup_cubic1 give of five entries there.
+pub(super) static SPREAD: [(i64, i64, i64, i64, i64); 24] = [
     (0, 4294967296, -9223372036854775807, 429496730, 429496730),
     (0, 4294967296, -1, 429496730, 429496730),
     (0, 4294967296, 0, 429496730, 429496730),
@@ -59,13 +61,6 @@ pub(super) const SPREAD: [(i64, i64, i64, i64, i64); 26] = [
     (
         -9223372036854775807,
         9223372036854775807,
-        -1,
-        30064771072,
-        30064771072,
-    ),
-    (
-        -9223372036854775807,
-        9223372036854775807,
         0,
         30064771072,
         30064771072,
@@ -91,13 +86,6 @@ pub(super) const SPREAD: [(i64, i64, i64, i64, i64); 26] = [
         4294967296000000000,
         633437448733517822,
     ),
-    (
-        -9223372036854775807,
-        9223372036854775807,
-        9223372036854775807,
-        4294967296000000000,
-        633437448733517822,
-    ),
     (4294967296, 4294967296, 4294967296, 429496730, 429496730),
     (4294967296, -4294967296, 0, 429496730, 429496730),
     (5, 6, 5, 429496730, 429496730),
@@ -111,19 +99,14 @@ pub(super) const SPREAD: [(i64, i64, i64, i64, i64); 26] = [
     ),
 ];
 
-pub(super) const TWO: [i64; 2] = [9223372036854775807, -9223372036854775807];
+// Two entries, the ends of all numbers.
+pub(super) static TWO: [i64; 2] = [9223372036854775807, -9223372036854775807];
 
-pub(super) const SPREAD_TWO: [(i64, i64, i64, i64, i64); 8] = [
+// The ends of a range, a number, and what lookup1 and lookup_cubic1 give of two entries there.
+pub(super) static SPREAD_TWO: [(i64, i64, i64, i64, i64); 7] = [
     (0, 12884901888, -1, 9223372036854775807, 9223372036854775807),
     (0, 12884901888, 0, 9223372036854775807, 9223372036854775807),
     (0, 12884901888, 1, 9223372036854775807, 9223372036854775807),
-    (
-        0,
-        12884901888,
-        4294967296,
-        3074457347049914368,
-        7173733806681212700,
-    ),
     (0, 12884901888, 6442450944, 0, 6917529027641081856),
     (
         0,
@@ -148,15 +131,18 @@ pub(super) const SPREAD_TWO: [(i64, i64, i64, i64, i64); 8] = [
     ),
 ];
 
-pub(super) const SINGLE: [i64; 1] = [3006477107];
+// One entry.
+pub(super) static SINGLE: [i64; 1] = [3006477107];
 
-pub(super) const SPREAD_SINGLE: [(i64, i64, i64, i64, i64); 3] = [
+// The ends of a range, a number, and what lookup1 and lookup_cubic1 give of one entry there.
+pub(super) static SPREAD_SINGLE: [(i64, i64, i64, i64, i64); 3] = [
     (0, 12884901888, -1, 3006477107, 3006477107),
     (0, 12884901888, 0, 3006477107, 3006477107),
     (0, 12884901888, 1, 3006477107, 3006477107),
 ];
 
-pub(super) const RISING: [i64; 8] = [
+// Pairs whose x rises.
+pub(super) static RISING: [i64; 8] = [
     -4294967296,
     17179869184,
     2147483648,
@@ -167,7 +153,8 @@ pub(super) const RISING: [i64; 8] = [
     8589934592,
 ];
 
-pub(super) const RISING_AT: [(i64, i64, i64); 17] = [
+// A number, and what interp1 and interp_cubic1 give of these pairs there.
+pub(super) static RISING_AT: [(i64, i64, i64); 17] = [
     (-17179869184, 17179869184, 17179869184),
     (-4294967297, 17179869184, 17179869184),
     (-4294967296, 17179869184, 17179869184),
@@ -187,7 +174,8 @@ pub(super) const RISING_AT: [(i64, i64, i64); 17] = [
     (15032385536, 8589934592, 8589934592),
 ];
 
-pub(super) const MIXED: [i64; 12] = [
+// Pairs whose x does not rise.
+pub(super) static MIXED: [i64; 12] = [
     0,
     4294967296,
     8589934592,
@@ -202,7 +190,8 @@ pub(super) const MIXED: [i64; 12] = [
     429496730,
 ];
 
-pub(super) const MIXED_AT: [(i64, i64, i64); 20] = [
+// A number, and what interp1 and interp_cubic1 give of these pairs there.
+pub(super) static MIXED_AT: [(i64, i64, i64); 20] = [
     (-17179869184, 4294967296, 4294967296),
     (-12884901889, 4294967296, 4294967296),
     (-12884901888, 4294967296, 4294967296),
@@ -225,7 +214,8 @@ pub(super) const MIXED_AT: [(i64, i64, i64); 20] = [
     (17179869185, 429496730, 429496730),
 ];
 
-pub(super) const BOX: [i64; 36] = [
+// 2 by 3 by 2 triples.
+pub(super) static BOX: [i64; 36] = [
     2038265566,
     7157178489,
     9202398437,
@@ -264,11 +254,14 @@ pub(super) const BOX: [i64; 36] = [
     14072664917,
 ];
 
-pub(super) const BOX_LOW: [i64; 3] = [0, -4294967296, 2147483648];
+// Where the triples begin in each index.
+pub(super) static BOX_LOW: [i64; 3] = [0, -4294967296, 2147483648];
 
-pub(super) const BOX_HIGH: [i64; 3] = [4294967296, 8589934592, 3221225472];
+// And where they end.
+pub(super) static BOX_HIGH: [i64; 3] = [4294967296, 8589934592, 3221225472];
 
-pub(super) const BOX_AT: [([i64; 3], [i64; 3]); 15] = [
+// A point, and what lookup3 gives there.
+pub(super) static BOX_AT: [([i64; 3], [i64; 3]); 15] = [
     (
         [0, -4294967296, 2147483648],
         [2038265566, 7157178489, 9202398437],
@@ -335,13 +328,17 @@ pub(super) const BOX_AT: [([i64; 3], [i64; 3]); 15] = [
     ),
 ];
 
-pub(super) const ROW: [i64; 3] = [1073741824, -12884901888, 7516192768];
+// A row.
+pub(super) static ROW: [i64; 3] = [1073741824, -12884901888, 7516192768];
 
-pub(super) const ROW_TWICE: [i64; 3] = [2147483648, -25769803776, 15032385536];
+// It added to itself.
+pub(super) static ROW_TWICE: [i64; 3] = [2147483648, -25769803776, 15032385536];
 
-pub(super) const ROW_THRICE: [i64; 3] = [3221225472, -38654705664, 22548578304];
+// It times 3.
+pub(super) static ROW_THRICE: [i64; 3] = [3221225472, -38654705664, 22548578304];
 
-pub(super) const THREES: [([i64; 9], i64, [i64; 9], [i64; 9], [i64; 3]); 4] = [
+// A matrix, its determinant, its inverse, its square, and the product of ROW and it.
+pub(super) static THREES: [([i64; 9], i64, [i64; 9], [i64; 9], [i64; 3]); 4] = [
     (
         [
             8589934592,
@@ -474,7 +471,8 @@ pub(super) const THREES: [([i64; 9], i64, [i64; 9], [i64; 9], [i64; 3]); 4] = [
     ),
 ];
 
-pub(super) const THREE: [i64; 9] = [
+// A matrix.
+pub(super) static THREE: [i64; 9] = [
     8589934592,
     0,
     4294967296,
@@ -486,7 +484,8 @@ pub(super) const THREE: [i64; 9] = [
     858993459,
 ];
 
-pub(super) const THREE_EXCHANGED: [i64; 9] = [
+// Its rows and columns exchanged.
+pub(super) static THREE_EXCHANGED: [i64; 9] = [
     8589934592,
     2147483648,
     17179869184,
@@ -498,7 +497,8 @@ pub(super) const THREE_EXCHANGED: [i64; 9] = [
     858993459,
 ];
 
-pub(super) const FOURS: [([i64; 16], i64, [i64; 16], [i64; 16], [i64; 3]); 3] = [
+// A matrix, its determinant, its inverse, its square, and the product of ROW and it.
+pub(super) static FOURS: [([i64; 16], i64, [i64; 16], [i64; 16], [i64; 3]); 3] = [
     (
         [
             8589934592,
@@ -660,7 +660,8 @@ pub(super) const FOURS: [([i64; 16], i64, [i64; 16], [i64; 16], [i64; 3]); 3] = 
     ),
 ];
 
-pub(super) const FOUR: [i64; 16] = [
+// A matrix.
+pub(super) static FOUR: [i64; 16] = [
     8589934592,
     0,
     4294967296,
@@ -679,7 +680,8 @@ pub(super) const FOUR: [i64; 16] = [
     1288490189,
 ];
 
-pub(super) const FOUR_EXCHANGED: [i64; 16] = [
+// Its rows and columns exchanged.
+pub(super) static FOUR_EXCHANGED: [i64; 16] = [
     8589934592,
     2147483648,
     17179869184,
@@ -698,11 +700,13 @@ pub(super) const FOUR_EXCHANGED: [i64; 16] = [
     1288490189,
 ];
 
-pub(super) const COLOURS: [i64; 8] = [
+// The chromaticities of red, green, blue and white.
+pub(super) static COLOURS: [i64; 8] = [
     2748779069, 1417339208, 1288490189, 2576980378, 644245094, 257698038, 1343036273, 1413044240,
 ];
 
-pub(super) const TO_XYZ: [(i64, [i64; 16]); 3] = [
+// A luminance of white, and the matrix to XYZ.
+pub(super) static TO_XYZ: [(i64, [i64; 16]); 3] = [
     (
         4294967296,
         [

@@ -5,5 +5,5 @@ use Rattle.fix_elem.proofs.Walk.{Room}
 use Rattle.fix_elem.proofs.Search.{find}
 use Rattle.fix_elem.proofs.logarithms.exponent.Given as goal
 
-abbrev pub invariant-loop-k : goal.invariant-loop-k
-invariant-loop-k l = record { value : l.f + find (drop l.k (constants FRACTION)) l.e l.m ≡ exponent FRACTION l.m; room : Room l.e (drop l.k (constants FRACTION)) }
+abbrev pub invariant-bits : goal.invariant-bits
+invariant-bits l = record { value : l.f + find (drop l.k (constants FRACTION)) l.e l.m ≡ exponent FRACTION l.m; room : Room l.e (drop l.k (constants FRACTION)) }

@@ -3,8 +3,9 @@ use Rattle.std.proofs.Common.{◌≡◌, ℕ, ℤ, pos, max, min, unsigned_abs, 
 use Rattle.std.specs.Int.{w64}
 use Rattle.std.proofs.lemmas.Int.{to_z-of_z}
 use Rattle.fix_num.specs.declared.TheConstants.{FRACTION}
+use Rattle.fix_num.specs.Constants.{half_pi}
 use Rattle.fix_num.specs.Fixed.{fix_times}
-use Rattle.fix_trig.specs.Angle.{found, unfolded, half_pi}
+use Rattle.fix_trig.specs.Angle.{found, unfolded}
 use Rattle.fix_trig.proofs.Steps.{atan2_zero, atan2_at}
 use Rattle.fix_trig.proofs.arc.atan2.Goals as goal
 

@@ -5,5 +5,5 @@ use Rattle.table_lookup.specs.Tables.{pair, pairs}
 use Rattle.table_lookup.proofs.pairs.interval.Given as goal
 
 -- no pair so far lies above p
-abbrev pub invariant-loop-i : goal.invariant-loop-i
-invariant-loop-i l = (k : ℕ) → k < l.i → int_lt l.p (pair (pairs l.t) (k + 1)).x ≡ false
+abbrev pub invariant-pairs : goal.invariant-pairs
+invariant-pairs l = (k : ℕ) → k < l.i → int_lt l.p (pair (pairs l.t) (k + 1)).x ≡ false

@@ -1,12 +1,12 @@
--- Goals of `axis::distance`.
+-- Goals of `axis::steps_before`.
 use Rattle.std.proofs.Common.{◌≡◌, ℕ, ℤ, pos, ◌-ℤ◌, ◌*ℤ◌, ◌<ℤ◌, ◌≤ℤ◌, ◌-◌, ◌*◌, ◌^◌, ◌≤◌, unsigned_abs, FitsSigned, to_z, ◌∙◌, arith}
 use Rattle.std.specs.Int.{w128}
 use Rattle.std.proofs.lemmas.Int.{ints, to_z-of_z, to_z_pos, fits_signed_from_abs}
 use Rattle.fix_num.specs.declared.TheConstants.{FRACTION}
 use Rattle.fix_num.specs.Fixed.{rnd, one, clamped}
-use Rattle.table_lookup.specs.Between.{distance}
+use Rattle.table_lookup.specs.Between.{steps_before}
 use Rattle.table_lookup.proofs.Sizes.{product_size, steps_range, size_of}
-use Rattle.table_lookup.proofs.axis.distance.Goals as goal
+use Rattle.table_lookup.proofs.axis.steps_before.Goals as goal
 
 pub overflow_mul-steps : goal.overflow_mul-steps
 overflow_mul-steps c =
@@ -64,13 +64,13 @@ overflow_cast-result c =
     let e = simp to_z-of_z at (rw n at c.rnd.ensures) in
     let up : pos 0 <ℤ d = omega (arith, ints, c.span.ensures.value, c.requires.rising) in
     let h : w ≤ℤ d = omega (arith, ints, c.span.ensures.value, c.within.ensures.high) in
-    let b : (pos 0 ≤ℤ r) × (r ≤ℤ pos (k * 2 ^ FRACTION)) = steps_range w d r k (2 ^ FRACTION) up c.within.ensures.low h e in
+    let b : (pos 0 ≤ℤ r) × (r ≤ℤ pos (k * 2 ^ FRACTION)) = steps_range c.rounding_keeps_bounds.ensures w d r k (2 ^ FRACTION) up c.within.ensures.low h e in
     let low : pos 0 ≤ℤ r = b.0 in
     let high : r ≤ℤ pos (k * 2 ^ FRACTION) = b.1 in
     simp to_z-of_z (omega (arith, ints, low), omega (arith, ints, low, high))
 
 pub returns-clause-value : goal.returns-clause-value
-unfolding distance
+unfolding steps_before
 returns-clause-value c =
     let w : ℤ = c.within.result in
     let k : ℕ = c.args.n - 1 in
@@ -88,7 +88,7 @@ returns-clause-value c =
     let e = simp to_z-of_z at (rw n at c.rnd.ensures) in
     let up : pos 0 <ℤ d = omega (arith, ints, c.span.ensures.value, c.requires.rising) in
     let h : w ≤ℤ d = omega (arith, ints, c.span.ensures.value, c.within.ensures.high) in
-    let b : (pos 0 ≤ℤ r) × (r ≤ℤ pos (k * 2 ^ FRACTION)) = steps_range w d r k (2 ^ FRACTION) up c.within.ensures.low h e in
+    let b : (pos 0 ≤ℤ r) × (r ≤ℤ pos (k * 2 ^ FRACTION)) = steps_range c.rounding_keeps_bounds.ensures w d r k (2 ^ FRACTION) up c.within.ensures.low h e in
     let low : pos 0 ≤ℤ r = b.0 in
     let high : r ≤ℤ pos (k * 2 ^ FRACTION) = b.1 in
     let m : r ≡ rnd ((clamped c.args.p c.args.lo c.args.hi -ℤ c.args.lo) *ℤ pos k *ℤ one FRACTION) (c.args.hi -ℤ c.args.lo) = cc (e, c.within.ensures.value, c.span.ensures.value) in
@@ -112,7 +112,7 @@ returns-clause-most c =
     let e = simp to_z-of_z at (rw n at c.rnd.ensures) in
     let up : pos 0 <ℤ d = omega (arith, ints, c.span.ensures.value, c.requires.rising) in
     let h : w ≤ℤ d = omega (arith, ints, c.span.ensures.value, c.within.ensures.high) in
-    let b : (pos 0 ≤ℤ r) × (r ≤ℤ pos (k * 2 ^ FRACTION)) = steps_range w d r k (2 ^ FRACTION) up c.within.ensures.low h e in
+    let b : (pos 0 ≤ℤ r) × (r ≤ℤ pos (k * 2 ^ FRACTION)) = steps_range c.rounding_keeps_bounds.ensures w d r k (2 ^ FRACTION) up c.within.ensures.low h e in
     let low : pos 0 ≤ℤ r = b.0 in
     let high : r ≤ℤ pos (k * 2 ^ FRACTION) = b.1 in
     simp to_z-of_z (omega (arith, ints, low, high))

@@ -1,12 +1,12 @@
--- Goals of `pairs::share`.
+-- Goals of `pairs::part_between`.
 use Rattle.std.proofs.Common.{◌≡◌, ℤ, pos, ◌-ℤ◌, ◌*ℤ◌, ◌<ℤ◌, ◌≤ℤ◌, ◌*◌, ◌^◌, ◌≤◌, unsigned_abs, FitsSigned, ◌∙◌, w64, arith}
 use Rattle.std.specs.Int.{w128}
 use Rattle.std.proofs.lemmas.Int.{ints, to_z-of_z, fits_signed_from_abs}
 use Rattle.fix_num.specs.declared.TheConstants.{FRACTION}
 use Rattle.fix_num.specs.Fixed.{rnd, one}
-use Rattle.table_lookup.specs.Tables.{share}
+use Rattle.table_lookup.specs.Tables.{part_between}
 use Rattle.table_lookup.proofs.Sizes.{product_size, share_range}
-use Rattle.table_lookup.proofs.pairs.share.Goals as goal
+use Rattle.table_lookup.proofs.pairs.part_between.Goals as goal
 
 pub rnd-part-requires-clause-room : goal.rnd-part-requires-clause-room
 rnd-part-requires-clause-room c =
@@ -32,7 +32,7 @@ overflow_cast-part c =
     let up : pos 0 <ℤ d = omega (arith, ints, c.span-width.ensures.value, c.requires.low, c.requires.high) in
     let low : pos 0 ≤ℤ w = omega (arith, ints, c.span.ensures.value, c.requires.low) in
     let high : w ≤ℤ d = omega (arith, ints, c.span.ensures.value, c.span-width.ensures.value, c.requires.high) in
-    let b : (pos 0 ≤ℤ r) × (r ≤ℤ one FRACTION) = rw e (share_range w d (2 ^ FRACTION) up low high) in
+    let b : (pos 0 ≤ℤ r) × (r ≤ℤ one FRACTION) = rw e (share_range c.rounding_keeps_bounds.ensures w d (2 ^ FRACTION) up low high) in
     let least : pos 0 ≤ℤ r = b.0 in
     let most : r ≤ℤ one FRACTION = b.1 in
     let rg : FitsSigned w64 r = omega (arith, ints, least, most) in
@@ -52,14 +52,14 @@ from_raw-requires c =
     let up : pos 0 <ℤ d = omega (arith, ints, c.span-width.ensures.value, c.requires.low, c.requires.high) in
     let low : pos 0 ≤ℤ w = omega (arith, ints, c.span.ensures.value, c.requires.low) in
     let high : w ≤ℤ d = omega (arith, ints, c.span.ensures.value, c.span-width.ensures.value, c.requires.high) in
-    let b : (pos 0 ≤ℤ r) × (r ≤ℤ one FRACTION) = rw e (share_range w d (2 ^ FRACTION) up low high) in
+    let b : (pos 0 ≤ℤ r) × (r ≤ℤ one FRACTION) = rw e (share_range c.rounding_keeps_bounds.ensures w d (2 ^ FRACTION) up low high) in
     let least : pos 0 ≤ℤ r = b.0 in
     let most : r ≤ℤ one FRACTION = b.1 in
     let rg : FitsSigned w64 r = omega (arith, ints, least, most) in
     simp to_z-of_z (omega (arith, ints, least), omega (arith, ints, most))
 
 pub returns-clause-value : goal.returns-clause-value
-unfolding share
+unfolding part_between
 returns-clause-value c =
     let w : ℤ = c.span.result in
     let d : ℤ = c.span-width.result in
@@ -73,7 +73,7 @@ returns-clause-value c =
     let up : pos 0 <ℤ d = omega (arith, ints, c.span-width.ensures.value, c.requires.low, c.requires.high) in
     let low : pos 0 ≤ℤ w = omega (arith, ints, c.span.ensures.value, c.requires.low) in
     let high : w ≤ℤ d = omega (arith, ints, c.span.ensures.value, c.span-width.ensures.value, c.requires.high) in
-    let b : (pos 0 ≤ℤ r) × (r ≤ℤ one FRACTION) = rw e (share_range w d (2 ^ FRACTION) up low high) in
+    let b : (pos 0 ≤ℤ r) × (r ≤ℤ one FRACTION) = rw e (share_range c.rounding_keeps_bounds.ensures w d (2 ^ FRACTION) up low high) in
     let least : pos 0 ≤ℤ r = b.0 in
     let most : r ≤ℤ one FRACTION = b.1 in
     let rg : FitsSigned w64 r = omega (arith, ints, least, most) in
@@ -95,7 +95,7 @@ returns-clause-from c =
     let up : pos 0 <ℤ d = omega (arith, ints, c.span-width.ensures.value, c.requires.low, c.requires.high) in
     let low : pos 0 ≤ℤ w = omega (arith, ints, c.span.ensures.value, c.requires.low) in
     let high : w ≤ℤ d = omega (arith, ints, c.span.ensures.value, c.span-width.ensures.value, c.requires.high) in
-    let b : (pos 0 ≤ℤ r) × (r ≤ℤ one FRACTION) = rw e (share_range w d (2 ^ FRACTION) up low high) in
+    let b : (pos 0 ≤ℤ r) × (r ≤ℤ one FRACTION) = rw e (share_range c.rounding_keeps_bounds.ensures w d (2 ^ FRACTION) up low high) in
     let least : pos 0 ≤ℤ r = b.0 in
     let most : r ≤ℤ one FRACTION = b.1 in
     let rg : FitsSigned w64 r = omega (arith, ints, least, most) in
@@ -116,7 +116,7 @@ returns-clause-to c =
     let up : pos 0 <ℤ d = omega (arith, ints, c.span-width.ensures.value, c.requires.low, c.requires.high) in
     let low : pos 0 ≤ℤ w = omega (arith, ints, c.span.ensures.value, c.requires.low) in
     let high : w ≤ℤ d = omega (arith, ints, c.span.ensures.value, c.span-width.ensures.value, c.requires.high) in
-    let b : (pos 0 ≤ℤ r) × (r ≤ℤ one FRACTION) = rw e (share_range w d (2 ^ FRACTION) up low high) in
+    let b : (pos 0 ≤ℤ r) × (r ≤ℤ one FRACTION) = rw e (share_range c.rounding_keeps_bounds.ensures w d (2 ^ FRACTION) up low high) in
     let least : pos 0 ≤ℤ r = b.0 in
     let most : r ≤ℤ one FRACTION = b.1 in
     let rg : FitsSigned w64 r = omega (arith, ints, least, most) in
