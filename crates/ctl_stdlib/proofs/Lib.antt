@@ -1,0 +1,6 @@
+-- The lemmas of this crate.
+mod Apart
+mod Arms
+mod Filled
+mod Halved
+mod Looks

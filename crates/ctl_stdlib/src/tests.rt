@@ -1,0 +1,4 @@
+//! The functions on tables of cases.
+
+mod cases;
+mod tables;
