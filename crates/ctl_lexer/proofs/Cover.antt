@@ -7,12 +7,13 @@ use Rattle.std.proofs.lemmas.List.{length-drop, take-take, drop-take}
 use Rattle.std.proofs.lemmas.List.Sums.{sum_by-take-drop}
 use Rattle.ctl_tree.specs.declared.token.Token.{Token}
 use Rattle.ctl_tree.specs.declared.token.TokenKind.{TokenKind}
-use Rattle.ctl_tree.specs.Lexeme.{is_blank}
-use Rattle.ctl_tree.specs.Tokens.{IsGap, IsToken, StandsIn, CoversFrom, Covers, NothingBegins, line_at, nothing, blank, comment}
+use Rattle.ctl_tree.specs.TokenBytes.{is_blank}
+use Rattle.ctl_tree.specs.Tokens.{IsGap, IsToken, StandsIn, CoversFrom, Covers, NothingBegins, nothing, blank, comment}
+use Rattle.ctl_tree.specs.Lines.{line_at}
 use Rattle.ctl_lexer.specs.declared.front.Piece.{Piece}
-use Rattle.ctl_lexer.specs.declared.front.Piece.TheVariants.{Space, Lexeme}
-use Rattle.ctl_lexer.specs.Front.{IsPiece, piece_len, piece_kind, piece_tokens, tokens_of}
-use Rattle.ctl_lexer.proofs.Lexemes.{longest_some, longest_no_blank, same_longest}
+use Rattle.ctl_lexer.specs.declared.front.Piece.TheVariants.{Space, Token as TokenPiece}
+use Rattle.ctl_lexer.specs.Means.{IsPiece, piece_len, piece_kind, piece_tokens, tokens_of}
+use Rattle.ctl_lexer.proofs.Longest.{longest_some, longest_no_blank, same_longest}
 use Rattle.ctl_lexer.proofs.Spaces.{front, comment_within, comment_begins, gap_join, Blocked, blocked, end_blocked, same_place}
 
 -- a token does not end past the text
@@ -49,7 +50,7 @@ covers_more F text from p q (t ∷ ts) us c d = (c.0, c.1, covers_more F text (t
 pub piece_within : (F : ℕ) (text : List ℕ) (at : ℕ) (piece : Piece) → at ≤ length text → IsPiece F (drop at text) piece → at + piece_len piece ≤ length text
 piece_within F text at (Space n) le (inl b) = let e = b.0 in let some = b.1 in omega (arith, length-drop at text)
 piece_within F text at (Space n) le (inr c) = let w = comment_within (drop at text) n c in omega (arith, length-drop at text)
-piece_within F text at (Lexeme kind n) le t = token_within text at t
+piece_within F text at (TokenPiece kind n) le t = token_within text at t
 
 pub piece_covers : (F : ℕ) (text : List ℕ) (at line : ℕ) (piece : Piece) → at < length text → line ≡ line_at text at → IsPiece F (drop at text) piece
     → CoversFrom F text at (piece_tokens piece at line) (at + piece_len piece)
@@ -57,7 +58,7 @@ piece_covers F text at line (Space n) lt counted (inl b) =
     let e : n ≡ 1 = b.0 in
     blank lt (ap is_blank (sym (front text at)) ∙ b.2) (nothing (omega arith) (omega arith))
 piece_covers F text at line (Space n) lt counted (inr c) = comment n c (nothing (piece_within F text at (Space n) (omega arith) (inr c)) refl)
-piece_covers F text at line (Lexeme kind n) lt counted t = (nothing (omega arith) refl, record { spelled = t; line = counted }, nothing (token_within text at t) refl)
+piece_covers F text at line (TokenPiece kind n) lt counted t = (nothing (omega arith) refl, record { spelled = t; line = counted }, nothing (token_within text at t) refl)
 
 pub piece_put : (F : ℕ) (text : List ℕ) (at line : ℕ) (piece : Piece) (kind : Option TokenKind) (len : ℕ) (tokens more : List Token) → at < length text → line ≡ line_at text at
     → IsPiece F (drop at text) piece → kind ≡ piece_kind piece → len ≡ piece_len piece → Covers F text tokens at → more ≡ tokens ++ tokens_of kind len at line → Covers F text more (at + len)

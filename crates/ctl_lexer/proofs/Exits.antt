@@ -9,10 +9,10 @@ use Rattle.ctl_tree.specs.declared.sign.Sign.{Sign}
 use Rattle.ctl_tree.specs.declared.token.TokenKind.{TokenKind}
 use Rattle.ctl_tree.specs.declared.token.TokenKind.TheVariants.{Word, Name, Whole, Point, HalfPoint, Text, Sign as SignKind}
 use Rattle.ctl_tree.specs.Spelling.{keyword_bytes, sign_bytes}
-use Rattle.ctl_tree.specs.Lexeme.{is_digit, is_blank, begins_name, in_name, begins_number, goes_on_at, IsName, IsNumberSpelling, IsSign, IsText, IsLexeme, SpellsKind}
+use Rattle.ctl_tree.specs.TokenBytes.{is_digit, is_blank, begins_name, in_name, begins_number, goes_on_at, IsName, IsNumberSpelling, IsSign, IsText, IsTokenBytes, SpellsKind}
 use Rattle.ctl_tree.specs.Tokens.{begins_comment, IsToken, IsComment, IsBlockComment, NothingBegins}
-use Rattle.ctl_lexer.specs.Front.{NoNumber, NoSign, NoDouble, IsDouble}
-use Rattle.ctl_lexer.proofs.Lexemes.{plain, name_front, number_front, sign_front, text_front, name_longest, number_longest, sign_longest, text_longest, same_longest, longest_some, sign_short, sign_is, signlike, neither}
+use Rattle.ctl_lexer.specs.Means.{NoNumber, NoSign, NoDouble, IsDouble}
+use Rattle.ctl_lexer.proofs.Longest.{plain, name_front, number_front, sign_front, text_front, name_longest, number_longest, sign_longest, text_longest, same_longest, longest_some, sign_short, sign_is, signlike, neither}
 use Rattle.ctl_lexer.proofs.Spaces.{comment_begins}
 
 -- a keyword's first byte begins a name
@@ -73,18 +73,18 @@ quote_apart bytes q = and_left _ _ (ap (λ b. eqb b 47) q)
 pub text_token : (F : ℕ) (bytes : List ℕ) (n : ℕ) → slice_index bytes 0 ≡ 34 → n ≤ length bytes → IsText (take n bytes) → IsToken F Text bytes n
 text_token F bytes n q le h = record { whole = text_longest bytes n le h; spells = h; apart = quote_apart bytes q }
 
-open_lexeme : (bytes : List ℕ) (n : ℕ) → slice_index bytes 0 ≡ 34 → ((m : ℕ) → m ≤ length bytes → IsText (take m bytes) → ⊥) → n ≤ length bytes → IsLexeme (take n bytes) → ⊥
-open_lexeme bytes n q none le (inl name) = let k = name_front bytes n le name in grind (arith, nat_tests)
-open_lexeme bytes n q none le (inr (inl number)) = let k = number_front bytes n le number in grind (arith, nat_tests)
-open_lexeme bytes n q none le (inr (inr (inl sign))) = let k = ap plain (sym q) ∙ sign_front bytes n le sign in false≢true k
-open_lexeme bytes n q none le (inr (inr (inr text))) = none n le text
+open_bytes : (bytes : List ℕ) (n : ℕ) → slice_index bytes 0 ≡ 34 → ((m : ℕ) → m ≤ length bytes → IsText (take m bytes) → ⊥) → n ≤ length bytes → IsTokenBytes (take n bytes) → ⊥
+open_bytes bytes n q none le (inl name) = let k = name_front bytes n le name in grind (arith, nat_tests)
+open_bytes bytes n q none le (inr (inl number)) = let k = number_front bytes n le number in grind (arith, nat_tests)
+open_bytes bytes n q none le (inr (inr (inl sign))) = let k = ap plain (sym q) ∙ sign_front bytes n le sign in false≢true k
+open_bytes bytes n q none le (inr (inr (inr text))) = none n le text
 
 pub open_text : (F : ℕ) (bytes : List ℕ) → 0 < length bytes → slice_index bytes 0 ≡ 34 → ((n : ℕ) → n ≤ length bytes → IsText (take n bytes) → ⊥) → NothingBegins F bytes
 open_text F bytes more q none = record {
   more = more;
   no_blank = ap is_blank q;
   no_comment = λ n c. false≢true (sym (quote_apart bytes q) ∙ comment_begins bytes n c);
-  no_token = λ kind n t. open_lexeme bytes n q none t.whole.within t.whole.lexeme;
+  no_token = λ kind n t. open_bytes bytes n q none t.whole.within t.whole.written;
 }
 
 -- comments
@@ -206,12 +206,12 @@ no_one bytes more none single n pos le s = elim (cases_lt 1 n) [
       single s.0 (sym (take_one bytes more) ∙ ap (λ m. take m bytes) (sym e) ∙ s.1)
 ]
 
-no_lexeme : (bytes : List ℕ) (n : ℕ) → 0 < length bytes → eqb (slice_index bytes 0) 34 ≡ false → begins_name (slice_index bytes 0) ≡ false → begins_number bytes ≡ false
-    → NoDouble bytes → NoSign (slice_index bytes 0 ∷ []) → 0 < n → n ≤ length bytes → IsLexeme (take n bytes) → ⊥
-no_lexeme bytes n more no_text no_name no_number none single pos le (inl name) = false≢true (sym no_name ∙ name_front bytes n le name)
-no_lexeme bytes n more no_text no_name no_number none single pos le (inr (inl number)) = false≢true (sym no_number ∙ number_front bytes n le number)
-no_lexeme bytes n more no_text no_name no_number none single pos le (inr (inr (inl sign))) = no_one bytes more none single n pos le sign
-no_lexeme bytes n more no_text no_name no_number none single pos le (inr (inr (inr text))) = no_quote bytes no_text (text_front bytes n le text)
+no_bytes : (bytes : List ℕ) (n : ℕ) → 0 < length bytes → eqb (slice_index bytes 0) 34 ≡ false → begins_name (slice_index bytes 0) ≡ false → begins_number bytes ≡ false
+    → NoDouble bytes → NoSign (slice_index bytes 0 ∷ []) → 0 < n → n ≤ length bytes → IsTokenBytes (take n bytes) → ⊥
+no_bytes bytes n more no_text no_name no_number none single pos le (inl name) = false≢true (sym no_name ∙ name_front bytes n le name)
+no_bytes bytes n more no_text no_name no_number none single pos le (inr (inl number)) = false≢true (sym no_number ∙ number_front bytes n le number)
+no_bytes bytes n more no_text no_name no_number none single pos le (inr (inr (inl sign))) = no_one bytes more none single n pos le sign
+no_bytes bytes n more no_text no_name no_number none single pos le (inr (inr (inr text))) = no_quote bytes no_text (text_front bytes n le text)
 
 pub no_token_here : (F : ℕ) (bytes : List ℕ) → 0 < length bytes → is_blank (slice_index bytes 0) ≡ false → begins_comment bytes ≡ false → eqb (slice_index bytes 0) 34 ≡ false
     → begins_name (slice_index bytes 0) ≡ false → begins_number bytes ≡ false → NoDouble bytes → NoSign (slice_index bytes 0 ∷ []) → NothingBegins F bytes
@@ -219,5 +219,5 @@ no_token_here F bytes more no_blank apart no_text no_name no_number none single 
   more = more;
   no_blank = no_blank;
   no_comment = λ m c. false≢true (sym apart ∙ comment_begins bytes m c);
-  no_token = λ kind n t. no_lexeme bytes n more no_text no_name no_number none single (longest_some bytes n t.whole) t.whole.within t.whole.lexeme;
+  no_token = λ kind n t. no_bytes bytes n more no_text no_name no_number none single (longest_some bytes n t.whole) t.whole.within t.whole.written;
 }

@@ -1,10 +1,12 @@
 -- The fault of a text, from the place where nothing begins.
 use Rattle.std.proofs.Common.{◌≡◌, ℕ, List, drop, length, sym, ap, subst, ◌∙◌}
 use Rattle.ctl_tree.specs.declared.token.Token.{Token}
-use Rattle.ctl_tree.specs.Tokens.{Covers, StandsFor, NothingBegins, IsKindOf, line_at}
+use Rattle.ctl_tree.specs.Tokens.{Covers, StandsFor, NothingBegins, IsKindOf}
+use Rattle.ctl_tree.specs.Lines.{line_at}
 use Rattle.ctl_lexer.specs.declared.fault.LexFault.{LexFault}
 use Rattle.ctl_lexer.specs.declared.fault.LexFault.TheVariants.{At, Memory}
-use Rattle.ctl_lexer.specs.Front.{FaultAt, FaultOf, NoList}
+use Rattle.ctl_lexer.specs.Means.{FaultAt}
+use Rattle.ctl_lexer.specs.Faults.{FaultOf, NoList}
 use Rattle.ctl_lexer.proofs.Cover.{stops}
 
 pub fault_of : (F : ℕ) (text : List ℕ) (at line : ℕ) (tokens : List Token) (e : LexFault) → Covers F text tokens at → line ≡ line_at text at → FaultAt F text at line e → FaultOf F text e

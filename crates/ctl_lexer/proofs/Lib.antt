@@ -1,9 +1,14 @@
-mod Lexemes
+mod Longest
 mod Spaces
 mod Cover
 mod Exits
 mod Faults
 mod Points
 mod Values
-pub mod OneList
-pub mod OneFault
+mod OneList
+mod OneFault
+mod Least
+mod Decimals
+mod KindThere
+mod FrontThere
+mod EachText

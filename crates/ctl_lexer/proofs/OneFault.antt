@@ -1,11 +1,11 @@
 -- A text has at most one fault, and none where tokens stand for it.
-use Rattle.std.proofs.Common.{◌≡◌, ℕ, ◌+◌, ◌≤◌, Bool, true, false, List, [], ◌∷◌, length, drop, slice_index, eqb, arith, sym, ap, subst, ◌∙◌, cond, refl}
+use Rattle.std.proofs.Common.{◌≡◌, ℕ, ◌+◌, true, false, List, [], ◌∷◌, drop, slice_index, eqb, arith, sym, subst, ◌∙◌, cond, refl}
 use Rattle.std.specs.Prelude.{nat_le}
 use Rattle.std.proofs.lemmas.Bool.Decides.{nat_tests}
 use Rattle.ctl_tree.specs.declared.token.Token.{Token}
 use Rattle.ctl_tree.specs.declared.fault.LexKind.{LexKind}
 use Rattle.ctl_tree.specs.declared.fault.LexKind.TheVariants.{NoToken, OpenComment, OpenText, Literal, NotAscii}
-use Rattle.ctl_tree.specs.Lexeme.{begins_number}
+use Rattle.ctl_tree.specs.TokenBytes.{begins_number}
 use Rattle.ctl_tree.specs.Tokens.{begins_comment, IsToken, CoversFrom, StandsFor, NothingBegins, IsKindOf, HasFault}
 use Rattle.ctl_lexer.proofs.Spaces.{same_place}
 use Rattle.ctl_lexer.proofs.Cover.{token_blocked, nothing_blocked, same_len, stops}

@@ -6,9 +6,8 @@ use Rattle.std.proofs.lemmas.Bool.{cases_Bool, false≢true, and_parts, or_from,
 use Rattle.std.proofs.lemmas.Bool.Decides.{nat_tests}
 use Rattle.std.proofs.lemmas.List.{get_or-take, length-take-le}
 use Rattle.std.proofs.lemmas.List.Folds.{list_any-append, list_any_none, list_any_at}
-use Rattle.fix_num.specs.Decimal.{Decimal, Spells, SpellsSign, SpellsPower, SpellsExponent, IsDigit, number, decimal_raw}
+use Rattle.fix_num.specs.Decimal.{Decimal, Spells, SpellsSign, SpellsPower, SpellsExponent, IsDigit, number, decimal_raw, SpellsOnce}
 use Rattle.fix_num.specs.Half.{half}
-use Rattle.fix_num.proofs.Cut.{spelt_once}
 use Rattle.ctl_tree.specs.declared.keyword.Keyword.{Keyword}
 use Rattle.ctl_tree.specs.declared.keyword.Keyword.TheVariants.{Bool as BoolWord, Const as ConstWord, Ctlversion as CtlversionWord, Else as ElseWord, False as FalseWord, Float as FloatWord, For as ForWord, Half as HalfWord, If as IfWord, Import as ImportWord, Input as InputWord, Int as IntWord, Namespace as NamespaceWord, Output as OutputWord, Print as PrintWord, Return as ReturnWord, String as StringWord, Struct as StructWord, True as TrueWord, Uniform as UniformWord, Unsigned as UnsignedWord, Varying as VaryingWord, Void as VoidWord, While as WhileWord}
 use Rattle.ctl_tree.specs.declared.sign.Sign.{Sign}
@@ -17,16 +16,18 @@ use Rattle.ctl_tree.specs.declared.token.Token.{Token}
 use Rattle.ctl_tree.specs.declared.token.TokenKind.{TokenKind}
 use Rattle.ctl_tree.specs.declared.token.TokenKind.TheVariants.{Word, Name, Whole, Point, HalfPoint, Text, Sign as SignKind}
 use Rattle.ctl_tree.specs.Spelling.{keyword_bytes, sign_bytes}
-use Rattle.ctl_tree.specs.Lexeme.{begins_name, begins_number, IsHexadecimalDigit, hexadecimal_number, IsDigits, IsHexadecimal, IsWhole, IsPoint, IsHalfPoint, last_byte, but_last, ends_with, without_f, SpellsKind}
-use Rattle.ctl_tree.specs.Tokens.{IsToken, StandsIn, CoversFrom, OneList, line_at}
-use Rattle.ctl_lexer.proofs.Lexemes.{signlike, sign_is}
+use Rattle.ctl_tree.specs.TokenBytes.{begins_name, begins_number, IsHexadecimalDigit, hexadecimal_number, IsDigits, IsHexadecimal, IsWhole, IsPoint, IsHalfPoint, last_byte, but_last, ends_with, without_f, SpellsKind}
+use Rattle.ctl_tree.specs.Tokens.{IsToken, StandsIn, CoversFrom}
+use Rattle.ctl_lexer.specs.Laws.{OneList}
+use Rattle.ctl_tree.specs.Lines.{line_at}
+use Rattle.ctl_lexer.proofs.Longest.{signlike, sign_is}
 use Rattle.ctl_lexer.proofs.Exits.{keyword_first, name_no_number, sign_no_number}
 use Rattle.ctl_lexer.proofs.Points.{marked, digits_no_mark, point_marked}
 use Rattle.ctl_lexer.proofs.Spaces.{end_blocked, same_place}
 use Rattle.ctl_lexer.proofs.Cover.{token_blocked, token_some, same_len}
 
 -- the keyword with these bytes
-keyword_named : List ℕ → Keyword
+pub keyword_named : List ℕ → Keyword
 keyword_named w = cond (bytes_eq w (keyword_bytes BoolWord)) BoolWord (
     cond (bytes_eq w (keyword_bytes ConstWord)) ConstWord (
     cond (bytes_eq w (keyword_bytes CtlversionWord)) CtlversionWord (
@@ -52,7 +53,7 @@ keyword_named w = cond (bytes_eq w (keyword_bytes BoolWord)) BoolWord (
     cond (bytes_eq w (keyword_bytes VoidWord)) VoidWord (
     WhileWord)))))))))))))))))))))))
 
-keyword_back : (keyword : Keyword) → keyword_named (keyword_bytes keyword) ≡ keyword
+pub keyword_back : (keyword : Keyword) → keyword_named (keyword_bytes keyword) ≡ keyword
 unfolding keyword_named
 keyword_back BoolWord = refl
 keyword_back ConstWord = refl
@@ -80,7 +81,7 @@ keyword_back VoidWord = refl
 keyword_back WhileWord = refl
 
 -- the sign with these bytes
-sign_named : List ℕ → Sign
+pub sign_named : List ℕ → Sign
 sign_named w = cond (bytes_eq w (sign_bytes Plus)) Plus (
     cond (bytes_eq w (sign_bytes Minus)) Minus (
     cond (bytes_eq w (sign_bytes Star)) Star (
@@ -113,7 +114,7 @@ sign_named w = cond (bytes_eq w (sign_bytes Plus)) Plus (
     cond (bytes_eq w (sign_bytes Dot)) Dot (
     ColonColon))))))))))))))))))))))))))))))
 
-sign_back : (sign : Sign) → sign_named (sign_bytes sign) ≡ sign
+pub sign_back : (sign : Sign) → sign_named (sign_bytes sign) ≡ sign
 unfolding sign_named
 sign_back Plus = refl
 sign_back Minus = refl
@@ -282,11 +283,11 @@ point_half F w raw other p q =
     let P : List ℕ → Type 0 = λ v. Spells v p.decimal in
     no_foreign w p.decimal (length w - 1) (subst P e p.spelled) (omega arith) (h_foreign (last_byte w) q.suffixed)
 
-same_point : (F : ℕ) (w : List ℕ) (a b : ℤ) → IsPoint F w a → IsPoint F w b → a ≡ b
-same_point F w a b p q = p.value ∙ ap (decimal_raw F) (spelt_once (without_f w) p.decimal q.decimal p.spelled q.spelled) ∙ sym q.value
+same_point : SpellsOnce → (F : ℕ) (w : List ℕ) (a b : ℤ) → IsPoint F w a → IsPoint F w b → a ≡ b
+same_point once F w a b p q = p.value ∙ ap (decimal_raw F) (once (without_f w) p.decimal q.decimal p.spelled q.spelled) ∙ sym q.value
 
-same_half : (F : ℕ) (w : List ℕ) (a b : ℤ) → IsHalfPoint F w a → IsHalfPoint F w b → a ≡ b
-same_half F w a b p q = p.value ∙ ap (λ d. half F (decimal_raw F d)) (spelt_once (but_last w) p.decimal q.decimal p.spelled q.spelled) ∙ sym q.value
+same_half : SpellsOnce → (F : ℕ) (w : List ℕ) (a b : ℤ) → IsHalfPoint F w a → IsHalfPoint F w b → a ≡ b
+same_half once F w a b p q = p.value ∙ ap (λ d. half F (decimal_raw F d)) (once (but_last w) p.decimal q.decimal p.spelled q.spelled) ∙ sym q.value
 
 -- the kinds of token by their first bytes: names and keywords, numbers, texts, signs
 
@@ -348,85 +349,85 @@ kind_class F w (SignKind sign) s = class_sign w sign s
 apart_class : (F : ℕ) (w : List ℕ) (kind other : TokenKind) → SpellsKind F kind w → SpellsKind F other w → class_of kind ≡ class_of other
 apart_class F w kind other h k = sym (kind_class F w kind h) ∙ kind_class F w other k
 
-pub same_kind : (F : ℕ) (w : List ℕ) (kind other : TokenKind) → SpellsKind F kind w → SpellsKind F other w → kind ≡ other
+pub same_kind : SpellsOnce → (F : ℕ) (w : List ℕ) (kind other : TokenKind) → SpellsKind F kind w → SpellsKind F other w → kind ≡ other
 unfolding class_of
-same_kind F w (Word a) (Word b) h k = ap Word (sym (keyword_back a) ∙ ap keyword_named (sym h ∙ k) ∙ keyword_back b)
-same_kind F w (Word a) Name h k = absurd (k.1 (a, h))
-same_kind F w (Word a) (Whole b) h k = absurd (let e = apart_class F w (Word a) (Whole b) h k in omega arith)
-same_kind F w (Word a) (Point b) h k = absurd (let e = apart_class F w (Word a) (Point b) h k in omega arith)
-same_kind F w (Word a) (HalfPoint b) h k = absurd (let e = apart_class F w (Word a) (HalfPoint b) h k in omega arith)
-same_kind F w (Word a) Text h k = absurd (let e = apart_class F w (Word a) Text h k in omega arith)
-same_kind F w (Word a) (SignKind b) h k = absurd (let e = apart_class F w (Word a) (SignKind b) h k in omega arith)
-same_kind F w Name (Word b) h k = absurd (h.1 (b, k))
-same_kind F w Name Name h k = refl
-same_kind F w Name (Whole b) h k = absurd (let e = apart_class F w Name (Whole b) h k in omega arith)
-same_kind F w Name (Point b) h k = absurd (let e = apart_class F w Name (Point b) h k in omega arith)
-same_kind F w Name (HalfPoint b) h k = absurd (let e = apart_class F w Name (HalfPoint b) h k in omega arith)
-same_kind F w Name Text h k = absurd (let e = apart_class F w Name Text h k in omega arith)
-same_kind F w Name (SignKind b) h k = absurd (let e = apart_class F w Name (SignKind b) h k in omega arith)
-same_kind F w (Whole a) (Word b) h k = absurd (let e = apart_class F w (Whole a) (Word b) h k in omega arith)
-same_kind F w (Whole a) Name h k = absurd (let e = apart_class F w (Whole a) Name h k in omega arith)
-same_kind F w (Whole a) (Whole b) h k = ap Whole (same_whole w a b h k)
-same_kind F w (Whole a) (Point b) h k = absurd (whole_point F w a b h k)
-same_kind F w (Whole a) (HalfPoint b) h k = absurd (whole_half F w a b h k)
-same_kind F w (Whole a) Text h k = absurd (let e = apart_class F w (Whole a) Text h k in omega arith)
-same_kind F w (Whole a) (SignKind b) h k = absurd (let e = apart_class F w (Whole a) (SignKind b) h k in omega arith)
-same_kind F w (Point a) (Word b) h k = absurd (let e = apart_class F w (Point a) (Word b) h k in omega arith)
-same_kind F w (Point a) Name h k = absurd (let e = apart_class F w (Point a) Name h k in omega arith)
-same_kind F w (Point a) (Whole b) h k = absurd (whole_point F w b a k h)
-same_kind F w (Point a) (Point b) h k = ap Point (same_point F w a b h k)
-same_kind F w (Point a) (HalfPoint b) h k = absurd (point_half F w a b h k)
-same_kind F w (Point a) Text h k = absurd (let e = apart_class F w (Point a) Text h k in omega arith)
-same_kind F w (Point a) (SignKind b) h k = absurd (let e = apart_class F w (Point a) (SignKind b) h k in omega arith)
-same_kind F w (HalfPoint a) (Word b) h k = absurd (let e = apart_class F w (HalfPoint a) (Word b) h k in omega arith)
-same_kind F w (HalfPoint a) Name h k = absurd (let e = apart_class F w (HalfPoint a) Name h k in omega arith)
-same_kind F w (HalfPoint a) (Whole b) h k = absurd (whole_half F w b a k h)
-same_kind F w (HalfPoint a) (Point b) h k = absurd (point_half F w b a k h)
-same_kind F w (HalfPoint a) (HalfPoint b) h k = ap HalfPoint (same_half F w a b h k)
-same_kind F w (HalfPoint a) Text h k = absurd (let e = apart_class F w (HalfPoint a) Text h k in omega arith)
-same_kind F w (HalfPoint a) (SignKind b) h k = absurd (let e = apart_class F w (HalfPoint a) (SignKind b) h k in omega arith)
-same_kind F w Text (Word b) h k = absurd (let e = apart_class F w Text (Word b) h k in omega arith)
-same_kind F w Text Name h k = absurd (let e = apart_class F w Text Name h k in omega arith)
-same_kind F w Text (Whole b) h k = absurd (let e = apart_class F w Text (Whole b) h k in omega arith)
-same_kind F w Text (Point b) h k = absurd (let e = apart_class F w Text (Point b) h k in omega arith)
-same_kind F w Text (HalfPoint b) h k = absurd (let e = apart_class F w Text (HalfPoint b) h k in omega arith)
-same_kind F w Text Text h k = refl
-same_kind F w Text (SignKind b) h k = absurd (let e = apart_class F w Text (SignKind b) h k in omega arith)
-same_kind F w (SignKind a) (Word b) h k = absurd (let e = apart_class F w (SignKind a) (Word b) h k in omega arith)
-same_kind F w (SignKind a) Name h k = absurd (let e = apart_class F w (SignKind a) Name h k in omega arith)
-same_kind F w (SignKind a) (Whole b) h k = absurd (let e = apart_class F w (SignKind a) (Whole b) h k in omega arith)
-same_kind F w (SignKind a) (Point b) h k = absurd (let e = apart_class F w (SignKind a) (Point b) h k in omega arith)
-same_kind F w (SignKind a) (HalfPoint b) h k = absurd (let e = apart_class F w (SignKind a) (HalfPoint b) h k in omega arith)
-same_kind F w (SignKind a) Text h k = absurd (let e = apart_class F w (SignKind a) Text h k in omega arith)
-same_kind F w (SignKind a) (SignKind b) h k = ap SignKind (sym (sign_back a) ∙ ap sign_named (sym h ∙ k) ∙ sign_back b)
+same_kind once F w (Word a) (Word b) h k = ap Word (sym (keyword_back a) ∙ ap keyword_named (sym h ∙ k) ∙ keyword_back b)
+same_kind once F w (Word a) Name h k = absurd (k.1 (a, h))
+same_kind once F w (Word a) (Whole b) h k = absurd (let e = apart_class F w (Word a) (Whole b) h k in omega arith)
+same_kind once F w (Word a) (Point b) h k = absurd (let e = apart_class F w (Word a) (Point b) h k in omega arith)
+same_kind once F w (Word a) (HalfPoint b) h k = absurd (let e = apart_class F w (Word a) (HalfPoint b) h k in omega arith)
+same_kind once F w (Word a) Text h k = absurd (let e = apart_class F w (Word a) Text h k in omega arith)
+same_kind once F w (Word a) (SignKind b) h k = absurd (let e = apart_class F w (Word a) (SignKind b) h k in omega arith)
+same_kind once F w Name (Word b) h k = absurd (h.1 (b, k))
+same_kind once F w Name Name h k = refl
+same_kind once F w Name (Whole b) h k = absurd (let e = apart_class F w Name (Whole b) h k in omega arith)
+same_kind once F w Name (Point b) h k = absurd (let e = apart_class F w Name (Point b) h k in omega arith)
+same_kind once F w Name (HalfPoint b) h k = absurd (let e = apart_class F w Name (HalfPoint b) h k in omega arith)
+same_kind once F w Name Text h k = absurd (let e = apart_class F w Name Text h k in omega arith)
+same_kind once F w Name (SignKind b) h k = absurd (let e = apart_class F w Name (SignKind b) h k in omega arith)
+same_kind once F w (Whole a) (Word b) h k = absurd (let e = apart_class F w (Whole a) (Word b) h k in omega arith)
+same_kind once F w (Whole a) Name h k = absurd (let e = apart_class F w (Whole a) Name h k in omega arith)
+same_kind once F w (Whole a) (Whole b) h k = ap Whole (same_whole w a b h k)
+same_kind once F w (Whole a) (Point b) h k = absurd (whole_point F w a b h k)
+same_kind once F w (Whole a) (HalfPoint b) h k = absurd (whole_half F w a b h k)
+same_kind once F w (Whole a) Text h k = absurd (let e = apart_class F w (Whole a) Text h k in omega arith)
+same_kind once F w (Whole a) (SignKind b) h k = absurd (let e = apart_class F w (Whole a) (SignKind b) h k in omega arith)
+same_kind once F w (Point a) (Word b) h k = absurd (let e = apart_class F w (Point a) (Word b) h k in omega arith)
+same_kind once F w (Point a) Name h k = absurd (let e = apart_class F w (Point a) Name h k in omega arith)
+same_kind once F w (Point a) (Whole b) h k = absurd (whole_point F w b a k h)
+same_kind once F w (Point a) (Point b) h k = ap Point (same_point once F w a b h k)
+same_kind once F w (Point a) (HalfPoint b) h k = absurd (point_half F w a b h k)
+same_kind once F w (Point a) Text h k = absurd (let e = apart_class F w (Point a) Text h k in omega arith)
+same_kind once F w (Point a) (SignKind b) h k = absurd (let e = apart_class F w (Point a) (SignKind b) h k in omega arith)
+same_kind once F w (HalfPoint a) (Word b) h k = absurd (let e = apart_class F w (HalfPoint a) (Word b) h k in omega arith)
+same_kind once F w (HalfPoint a) Name h k = absurd (let e = apart_class F w (HalfPoint a) Name h k in omega arith)
+same_kind once F w (HalfPoint a) (Whole b) h k = absurd (whole_half F w b a k h)
+same_kind once F w (HalfPoint a) (Point b) h k = absurd (point_half F w b a k h)
+same_kind once F w (HalfPoint a) (HalfPoint b) h k = ap HalfPoint (same_half once F w a b h k)
+same_kind once F w (HalfPoint a) Text h k = absurd (let e = apart_class F w (HalfPoint a) Text h k in omega arith)
+same_kind once F w (HalfPoint a) (SignKind b) h k = absurd (let e = apart_class F w (HalfPoint a) (SignKind b) h k in omega arith)
+same_kind once F w Text (Word b) h k = absurd (let e = apart_class F w Text (Word b) h k in omega arith)
+same_kind once F w Text Name h k = absurd (let e = apart_class F w Text Name h k in omega arith)
+same_kind once F w Text (Whole b) h k = absurd (let e = apart_class F w Text (Whole b) h k in omega arith)
+same_kind once F w Text (Point b) h k = absurd (let e = apart_class F w Text (Point b) h k in omega arith)
+same_kind once F w Text (HalfPoint b) h k = absurd (let e = apart_class F w Text (HalfPoint b) h k in omega arith)
+same_kind once F w Text Text h k = refl
+same_kind once F w Text (SignKind b) h k = absurd (let e = apart_class F w Text (SignKind b) h k in omega arith)
+same_kind once F w (SignKind a) (Word b) h k = absurd (let e = apart_class F w (SignKind a) (Word b) h k in omega arith)
+same_kind once F w (SignKind a) Name h k = absurd (let e = apart_class F w (SignKind a) Name h k in omega arith)
+same_kind once F w (SignKind a) (Whole b) h k = absurd (let e = apart_class F w (SignKind a) (Whole b) h k in omega arith)
+same_kind once F w (SignKind a) (Point b) h k = absurd (let e = apart_class F w (SignKind a) (Point b) h k in omega arith)
+same_kind once F w (SignKind a) (HalfPoint b) h k = absurd (let e = apart_class F w (SignKind a) (HalfPoint b) h k in omega arith)
+same_kind once F w (SignKind a) Text h k = absurd (let e = apart_class F w (SignKind a) Text h k in omega arith)
+same_kind once F w (SignKind a) (SignKind b) h k = ap SignKind (sym (sign_back a) ∙ ap sign_named (sym h ∙ k) ∙ sign_back b)
 
 -- tokens that stand at one place are the same
-same_token : (F : ℕ) (text : List ℕ) (t u : Token) → t.at ≡ u.at → StandsIn F text t → StandsIn F text u → t ≡ u
-same_token F text t u e s r =
+same_token : SpellsOnce → (F : ℕ) (text : List ℕ) (t u : Token) → t.at ≡ u.at → StandsIn F text t → StandsIn F text u → t ≡ u
+same_token once F text t u e s r =
     let l : t.len ≡ u.len = same_len F text t u e s r in
     let P : ℕ → Type 0 = λ at. IsToken F u.kind (drop at text) u.len in
     let there = subst P (sym e) r.spelled in
     let S : ℕ → Type 0 = λ k. SpellsKind F u.kind (take k (drop t.at text)) in
-    let kind = same_kind F (take t.len (drop t.at text)) t.kind u.kind s.spelled.spells (subst S (sym l) there.spells) in
+    let kind = same_kind once F (take t.len (drop t.at text)) t.kind u.kind s.spelled.spells (subst S (sym l) there.spells) in
     let line : t.line ≡ u.line = s.line ∙ ap (line_at text) e ∙ sym r.line in
     λ i. record { kind = kind i; at = e i; len = l i; line = line i }
 
-same_cover : (F : ℕ) (text : List ℕ) (from : ℕ) (ts us : List Token) → CoversFrom F text from ts (length text) → CoversFrom F text from us (length text) → ts ≡ us
-same_cover F text from [] [] c d = refl
-same_cover F text from [] (u ∷ us) c d =
+same_cover : SpellsOnce → (F : ℕ) (text : List ℕ) (from : ℕ) (ts us : List Token) → CoversFrom F text from ts (length text) → CoversFrom F text from us (length text) → ts ≡ us
+same_cover once F text from [] [] c d = refl
+same_cover once F text from [] (u ∷ us) c d =
     let e = same_place text from (length text) u.at c d.0 (end_blocked text) (token_blocked text u.at d.1.spelled) in
     let lt = token_some text u.at d.1.spelled in
     absurd (omega arith)
-same_cover F text from (t ∷ ts) [] c d =
+same_cover once F text from (t ∷ ts) [] c d =
     let e = same_place text from t.at (length text) c.0 d (token_blocked text t.at c.1.spelled) (end_blocked text) in
     let lt = token_some text t.at c.1.spelled in
     absurd (omega arith)
-same_cover F text from (t ∷ ts) (u ∷ us) c d =
+same_cover once F text from (t ∷ ts) (u ∷ us) c d =
     let e : t.at ≡ u.at = same_place text from t.at u.at c.0 d.0 (token_blocked text t.at c.1.spelled) (token_blocked text u.at d.1.spelled) in
-    let same = same_token F text t u e c.1 d.1 in
+    let same = same_token once F text t u e c.1 d.1 in
     let P : Token → Type 0 = λ v. CoversFrom F text (v.at + v.len) us (length text) in
-    let others = same_cover F text (t.at + t.len) ts us c.2 (subst P (sym same) d.2) in
+    let others = same_cover once F text (t.at + t.len) ts us c.2 (subst P (sym same) d.2) in
     λ i. same i ∷ others i
 
-pub one_list : OneList
-one_list F text tokens others c d = same_cover F text 0 tokens others c d
+pub one_list : SpellsOnce → OneList
+one_list once F text tokens others c d = same_cover once F text 0 tokens others c d

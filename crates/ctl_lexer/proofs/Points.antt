@@ -6,12 +6,11 @@ use Rattle.std.specs.List.{list_any}
 use Rattle.std.proofs.lemmas.Bool.{false≢true, or_left}
 use Rattle.std.proofs.lemmas.Bool.Decides.{nat_tests}
 use Rattle.std.proofs.lemmas.List.Folds.{list_any-append, list_any_none}
-use Rattle.fix_num.specs.Decimal.{Decimal, Spells, SpellsSign, SpellsExponent, IsDigit, significant, digits_of, most_digits, decimal_raw, Reads}
+use Rattle.fix_num.specs.Decimal.{Decimal, Spells, SpellsSign, SpellsExponent, IsDigit, significant, digits_of, most_digits, Reads, SpellsOnce}
 use Rattle.fix_num.specs.declared.decimal.LiteralFault.{LiteralFault}
 use Rattle.fix_num.specs.declared.decimal.LiteralFault.TheVariants.{NotANumber, TooManyDigits}
-use Rattle.fix_num.proofs.Cut.{spelt_once}
-use Rattle.ctl_tree.specs.Lexeme.{IsNumberSpelling, IsPoint, without_f, but_last}
-use Rattle.ctl_lexer.specs.Front.{is_mark, NoPoint, NoHalfPoint}
+use Rattle.ctl_tree.specs.TokenBytes.{IsNumberSpelling, IsPoint, without_f, but_last}
+use Rattle.ctl_lexer.specs.Means.{is_mark, NoPoint, NoHalfPoint}
 
 -- whether one of the bytes is a point, e or E
 abbrev pub marked : List ℕ → Bool
@@ -71,32 +70,21 @@ pub point_marked : (F : ℕ) (bytes : List ℕ) (raw : ℤ) → IsPoint F bytes 
 point_marked F bytes raw p = marked_rest (without_f bytes) p.decimal p.spelled ∙ rest_marked p.decimal.point p.decimal.part p.spelled.scale p.decimal.exponent p.spelled.is_scale p.pointed
 
 -- a text with too many digits is no text with few
-too_many : (text : List ℕ) (d e : Decimal) → Spells text d → Spells text e → significant (digits_of d) ≤ most_digits → most_digits < significant (digits_of e) → ⊥
-too_many text d e h k few many =
+pub too_many : SpellsOnce → (text : List ℕ) (d e : Decimal) → Spells text d → Spells text e → significant (digits_of d) ≤ most_digits → most_digits < significant (digits_of e) → ⊥
+too_many once text d e h k few many =
     let P : Decimal → Type 0 = λ d. significant (digits_of d) ≤ most_digits in
-    let f = subst P (spelt_once text d e h k) few in
+    let f = subst P (once text d e h k) few in
     omega arith
 
 -- what reading a number spelling with a mark says
-pub read_point : (F : ℕ) (bytes : List ℕ) (r : Result ℤ LiteralFault) → IsNumberSpelling bytes → marked (without_f bytes) ≡ true → Reads F (without_f bytes) r
+pub read_point : SpellsOnce → (F : ℕ) (bytes : List ℕ) (r : Result ℤ LiteralFault) → IsNumberSpelling bytes → marked (without_f bytes) ≡ true → Reads F (without_f bytes) r
     → MatchOption (result_ok r) (NoPoint F bytes) (λ raw. IsPoint F bytes raw)
-read_point F bytes (Ok raw) spelling mark h = record { decimal = h.0; whole = spelling; spelled = h.1; pointed = pointed (without_f bytes) h.0 h.1 mark; few = h.2; value = h.3 }
-read_point F bytes (Err NotANumber) spelling mark h = λ raw p. h p.decimal p.spelled
-read_point F bytes (Err TooManyDigits) spelling mark h = λ raw p. too_many (without_f bytes) p.decimal h.0 p.spelled h.1 p.few h.2
+read_point once F bytes (Ok raw) spelling mark h = record { decimal = h.0; whole = spelling; spelled = h.1; pointed = pointed (without_f bytes) h.0 h.1 mark; few = h.2; value = h.3 }
+read_point once F bytes (Err NotANumber) spelling mark h = λ raw p. h p.decimal p.spelled
+read_point once F bytes (Err TooManyDigits) spelling mark h = λ raw p. too_many once (without_f bytes) p.decimal h.0 p.spelled h.1 p.few h.2
 
--- what reading all bytes but the last says
-pub record IsRead (F : ℕ) (bytes : List ℕ) (raw : ℤ) : Type 0 where
-  pub decimal : Decimal
-  pub spelled : Spells (but_last bytes) decimal
-  pub few : significant (digits_of decimal) ≤ most_digits
-  pub value : raw ≡ decimal_raw F decimal
-
-pub read_half : (F : ℕ) (bytes : List ℕ) (r : Result ℤ LiteralFault) → Reads F (but_last bytes) r → MatchOption (result_ok r) (NoHalfPoint F bytes) (λ raw. IsRead F bytes raw)
-read_half F bytes (Ok raw) h = record { decimal = h.0; spelled = h.1; few = h.2; value = h.3 }
-read_half F bytes (Err NotANumber) h = λ raw p. h p.decimal p.spelled
-read_half F bytes (Err TooManyDigits) h = λ raw p. too_many (but_last bytes) p.decimal h.0 p.spelled h.1 p.few h.2
-
-pub no_half : (F : ℕ) (bytes : List ℕ) (r : Result ℤ LiteralFault) → Reads F (but_last bytes) r → result_ok r ≡ None → NoHalfPoint F bytes
-no_half F bytes (Ok raw) h none = absurd cc
-no_half F bytes (Err NotANumber) h none = λ raw p. h p.decimal p.spelled
-no_half F bytes (Err TooManyDigits) h none = λ raw p. too_many (but_last bytes) p.decimal h.0 p.spelled h.1 p.few h.2
+-- where reading all bytes but the last fails, there is no half number
+pub no_half : SpellsOnce → (F : ℕ) (bytes : List ℕ) (r : Result ℤ LiteralFault) → Reads F (but_last bytes) r → result_ok r ≡ None → NoHalfPoint F bytes
+no_half once F bytes (Ok raw) h none = absurd cc
+no_half once F bytes (Err NotANumber) h none = λ raw p. h p.decimal p.spelled
+no_half once F bytes (Err TooManyDigits) h none = λ raw p. too_many once (but_last bytes) p.decimal h.0 p.spelled h.1 p.few h.2

@@ -3,7 +3,7 @@ use Rattle.std.proofs.Common.{◌≡◌, ℕ, ◌+◌, ◌-◌, ◌<◌, ◌≤�
 use Rattle.std.proofs.lemmas.Bool.{cases_lt, false≢true, eq-eqb, and_from, or_left, or_right}
 use Rattle.std.proofs.lemmas.Bool.Decides.{nat_tests}
 use Rattle.std.proofs.lemmas.List.{get_or-drop}
-use Rattle.ctl_tree.specs.Lexeme.{is_blank}
+use Rattle.ctl_tree.specs.TokenBytes.{is_blank}
 use Rattle.ctl_tree.specs.Tokens.{begins_comment, IsLineComment, IsBlockComment, IsComment, IsGap, nothing, blank, comment}
 
 pub front : (text : List ℕ) (at : ℕ) → slice_index (drop at text) 0 ≡ slice_index text at
@@ -11,7 +11,7 @@ front text at = get_or-drop at text 0 0 ∙ ap (λ k. get_or text k 0) (add-zero
 
 -- comments
 
-comment_long : (bytes : List ℕ) (n : ℕ) → IsComment bytes n → 2 ≤ n
+pub comment_long : (bytes : List ℕ) (n : ℕ) → IsComment bytes n → 2 ≤ n
 comment_long bytes n (inl line) = line.some
 comment_long bytes n (inr block) = let some = block.some in omega arith
 

@@ -5,8 +5,8 @@ use Rattle.std.proofs.lemmas.Bool.{false≢true, and_parts}
 use Rattle.std.proofs.lemmas.Bool.Decides.{nat_tests}
 use Rattle.std.proofs.lemmas.List.{take-append-drop}
 use Rattle.std.proofs.lemmas.List.Sums.{fold-append}
-use Rattle.ctl_tree.specs.Lexeme.{begins_hexadecimal, hexadecimal_digit, hexadecimal_number, IsDigits, IsHexadecimal, IsWhole}
-use Rattle.ctl_lexer.specs.Front.{NoHexadecimal, NoWhole}
+use Rattle.ctl_tree.specs.TokenBytes.{begins_hexadecimal, hexadecimal_digit, hexadecimal_number, IsDigits, IsHexadecimal, IsWhole}
+use Rattle.ctl_lexer.specs.Means.{NoHexadecimal, NoWhole}
 
 abbrev pub from : ℕ → List ℕ → ℕ
 from n digits = fold (λ m b. 16 * m + hexadecimal_digit b) n digits

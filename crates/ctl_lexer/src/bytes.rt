@@ -1,7 +1,7 @@
 //! Tests of one byte.
 
 ghost use Rattle.std.specs.Prelude.{◌≡◌, ◌==◌, count_by};
-ghost use Rattle.ctl_tree.specs.Lexeme.{is_blank, is_digit, begins_name, in_name};
+ghost use Rattle.ctl_tree.specs.TokenBytes.{is_blank, is_digit, begins_name, in_name};
 
 pub(crate) fn is_blank(b: u8) -> bool
     ensures { result ≡ is_blank b }

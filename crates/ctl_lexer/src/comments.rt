@@ -2,7 +2,7 @@
 
 ghost use Rattle.std.specs.Prelude.{◌≡◌, ◌<◌, ℕ, length, slice_index, true, false, MatchOption};
 ghost use Rattle.ctl_tree.specs.Tokens.{begins_comment, closes_at, IsLineComment, IsBlockComment, IsComment};
-ghost use Rattle.ctl_lexer.specs.Front.{Begins};
+ghost use Rattle.ctl_lexer.specs.Means.{IsFront};
 
 use crate::front::Piece;
 use ctl_tree::LexKind;
@@ -47,7 +47,7 @@ fn block_length(bytes: &[u8]) -> Option<usize>
 // The comment that begins here.
 pub(crate) fn comment_at(bytes: &[u8]) -> Result<Piece, LexKind>
     requires { begins_comment bytes.now ≡ true }
-    ensures { Begins FRACTION bytes.now result }
+    ensures { IsFront FRACTION bytes.now result }
 {
     if bytes[1] == b'/' {
         return Ok(Piece::Space(line_length(bytes)));

@@ -1,7 +1,7 @@
 //! What stands at the front of a list of bytes.
 
 ghost use Rattle.std.specs.Prelude.{◌≡◌, ◌<◌, length};
-ghost use Rattle.ctl_lexer.specs.Front.{Begins, piece_kind, piece_len};
+ghost use Rattle.ctl_lexer.specs.Means.{IsFront, piece_kind, piece_len};
 
 use crate::bytes::{begins_name, is_blank};
 use crate::comments::{begins_comment, comment_at};
@@ -16,7 +16,7 @@ use fix_num::FRACTION;
 #[derive(Clone, Copy, Debug, PartialEq, Eq)]
 pub(crate) enum Piece {
     Space(usize),
-    Lexeme(TokenKind, usize),
+    Token(TokenKind, usize),
 }
 
 impl Piece {
@@ -27,7 +27,7 @@ impl Piece {
     {
         match self {
             Piece::Space(len) => (None, len),
-            Piece::Lexeme(kind, len) => (Some(kind), len),
+            Piece::Token(kind, len) => (Some(kind), len),
         }
     }
 }
@@ -35,7 +35,7 @@ impl Piece {
 // The piece that begins here.
 pub(crate) fn piece_at(bytes: &[u8]) -> Result<Piece, LexKind>
     requires { 0 < length bytes.now }
-    ensures { Begins FRACTION bytes.now result }
+    ensures { IsFront FRACTION bytes.now result }
 {
     if is_blank(bytes[0]) {
         return Ok(Piece::Space(1));

@@ -2,12 +2,14 @@
 #![tactic(auto)]
 
 pub use fault::LexFault;
-pub use tokens::{lex, one_list};
+pub use laws::{faults_have_no_tokens, one_fault, one_list, tokens_or_fault};
+pub use tokens::lex;
 
 mod bytes;
 mod comments;
 mod fault;
 mod front;
+mod laws;
 mod names;
 mod numbers;
 mod signs;

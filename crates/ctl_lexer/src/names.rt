@@ -2,9 +2,9 @@
 
 ghost use Rattle.std.specs.Prelude.{◌≡◌, ◌<◌, ◌≤◌, ℕ, length, slice_index, true, false, MatchOption};
 ghost use Rattle.ctl_tree.specs.Spelling.{keyword_bytes};
-ghost use Rattle.ctl_tree.specs.Lexeme.{begins_name, in_name, IsName, SpellsKind};
+ghost use Rattle.ctl_tree.specs.TokenBytes.{begins_name, in_name, IsName, SpellsKind};
 ghost use Rattle.ctl_tree.specs.Tokens.{begins_comment};
-ghost use Rattle.ctl_lexer.specs.Front.{Begins, NoKeyword};
+ghost use Rattle.ctl_lexer.specs.Means.{IsFront, NoKeyword};
 
 use crate::bytes::in_name;
 use crate::front::Piece;
@@ -74,9 +74,9 @@ pub(crate) fn name_at(bytes: &[u8]) -> Result<Piece, LexKind>
     requires more { 0 < length bytes.now }
     requires apart { begins_comment bytes.now ≡ false }
     requires begins { begins_name (slice_index bytes.now 0) ≡ true }
-    ensures { Begins FRACTION bytes.now result }
+    ensures { IsFront FRACTION bytes.now result }
 {
     let len = name_length(bytes);
     let kind = word_of(&bytes[..len]);
-    Ok(Piece::Lexeme(kind, len))
+    Ok(Piece::Token(kind, len))
 }

@@ -2,15 +2,15 @@
 
 ghost use Rattle.std.specs.Prelude.{◌≡◌, ◌<◌, ◌≤◌, ℕ, length, slice_index, true, false, MatchOption};
 ghost use Rattle.std.specs.List.{list_any};
-ghost use Rattle.ctl_tree.specs.Lexeme.{begins_number, in_number, goes_on_at, ends_with, without_f, IsNumberSpelling, IsPoint, IsHalfPoint, SpellsKind};
+ghost use Rattle.ctl_tree.specs.TokenBytes.{begins_number, in_number, goes_on_at, ends_with, without_f, IsNumberSpelling, IsPoint, IsHalfPoint, SpellsKind};
 ghost use Rattle.ctl_tree.specs.Tokens.{begins_comment};
-ghost use Rattle.ctl_lexer.specs.Front.{Begins, is_mark, NoPoint, NoHalfPoint, NoNumber};
+ghost use Rattle.ctl_lexer.specs.Means.{IsFront, is_mark, NoPoint, NoHalfPoint, NoNumber};
 
 use crate::bytes::{in_name, is_digit};
 use crate::front::Piece;
 use crate::wholes::{begins_hexadecimal, whole_of};
 use ctl_tree::{LexKind, TokenKind};
-use fix_num::{FRACTION, Fix, read_decimal};
+use fix_num::{FRACTION, Fix, read_decimal, spells_once};
 
 pub(crate) fn begins_number(bytes: &[u8]) -> bool
     ensures { result ≡ begins_number bytes.now }
@@ -78,6 +78,7 @@ fn point_of(bytes: &[u8]) -> Option<Fix>
     requires { IsNumberSpelling bytes.now }
     ensures { MatchOption result (NoPoint FRACTION bytes.now) (IsPoint FRACTION bytes.now) }
 {
+    spells_once();
     let spelling = without_f(bytes);
     if !has_point_or_exponent(spelling) {
         return None;
@@ -90,6 +91,7 @@ fn half_of(bytes: &[u8]) -> Option<Fix>
     requires { IsNumberSpelling bytes.now }
     ensures { MatchOption result (NoHalfPoint FRACTION bytes.now) (IsHalfPoint FRACTION bytes.now) }
 {
+    spells_once();
     if !ends_with(b'h', b'H', bytes) {
         return None;
     }
@@ -119,11 +121,11 @@ pub(crate) fn number_at(bytes: &[u8]) -> Result<Piece, LexKind>
     requires more { 0 < length bytes.now }
     requires apart { begins_comment bytes.now ≡ false }
     requires begins { begins_number bytes.now ≡ true }
-    ensures { Begins FRACTION bytes.now result }
+    ensures { IsFront FRACTION bytes.now result }
 {
     let len = number_length(bytes);
     if let Some(kind) = number_of(&bytes[..len]) {
-        return Ok(Piece::Lexeme(kind, len));
+        return Ok(Piece::Token(kind, len));
     }
     Err(LexKind::Literal)
 }

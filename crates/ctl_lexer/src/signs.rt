@@ -2,9 +2,9 @@
 
 ghost use Rattle.std.specs.Prelude.{◌≡◌, ◌==◌, ◌<◌, ◌≤◌, ℕ, [], ◌∷◌, length, slice_index, true, false, MatchOption};
 ghost use Rattle.ctl_tree.specs.Spelling.{sign_bytes};
-ghost use Rattle.ctl_tree.specs.Lexeme.{is_blank, begins_name, begins_number};
+ghost use Rattle.ctl_tree.specs.TokenBytes.{is_blank, begins_name, begins_number};
 ghost use Rattle.ctl_tree.specs.Tokens.{begins_comment};
-ghost use Rattle.ctl_lexer.specs.Front.{Begins, NoSign, NoDouble, IsDouble};
+ghost use Rattle.ctl_lexer.specs.Means.{IsFront, NoSign, NoDouble, IsDouble};
 
 use crate::front::Piece;
 use ctl_tree::{LexKind, Sign, TokenKind};
@@ -77,13 +77,13 @@ pub(crate) fn sign_at(bytes: &[u8]) -> Result<Piece, LexKind>
     requires no_text { (slice_index bytes.now 0 == 34) ≡ false }
     requires no_name { begins_name (slice_index bytes.now 0) ≡ false }
     requires no_number { begins_number bytes.now ≡ false }
-    ensures { Begins FRACTION bytes.now result }
+    ensures { IsFront FRACTION bytes.now result }
 {
     if let Some(sign) = double_sign_at(bytes) {
-        return Ok(Piece::Lexeme(TokenKind::Sign(sign), 2));
+        return Ok(Piece::Token(TokenKind::Sign(sign), 2));
     }
     if let Some(sign) = single_sign(bytes[0]) {
-        return Ok(Piece::Lexeme(TokenKind::Sign(sign), 1));
+        return Ok(Piece::Token(TokenKind::Sign(sign), 1));
     }
     if 128 <= bytes[0] {
         return Err(LexKind::NotAscii);

@@ -2,7 +2,7 @@
 
 ghost use Rattle.std.specs.Prelude.{◌≡◌, ◌<◌, ℕ, length, slice_index, true, false};
 ghost use Rattle.ctl_tree.specs.Tokens.{begins_comment};
-ghost use Rattle.ctl_lexer.specs.Front.{Begins, TextLength};
+ghost use Rattle.ctl_lexer.specs.Means.{IsFront, TextLength};
 
 use crate::front::Piece;
 use ctl_tree::{LexKind, TokenKind};
@@ -30,10 +30,10 @@ fn text_length(bytes: &[u8]) -> Option<usize>
 pub(crate) fn text_at(bytes: &[u8]) -> Result<Piece, LexKind>
     requires more { 0 < length bytes.now }
     requires begins { slice_index bytes.now 0 ≡ 34 }
-    ensures { Begins FRACTION bytes.now result }
+    ensures { IsFront FRACTION bytes.now result }
 {
     if let Some(len) = text_length(bytes) {
-        return Ok(Piece::Lexeme(TokenKind::Text, len));
+        return Ok(Piece::Token(TokenKind::Text, len));
     }
     Err(LexKind::OpenText)
 }

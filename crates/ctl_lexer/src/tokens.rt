@@ -1,8 +1,11 @@
 //! The tokens of a text, piece by piece.
 
-ghost use Rattle.std.specs.Prelude.{◌≡◌, ◌<◌, ◌≤◌, ◌+◌, ◌^◌, ◌++◌, length, drop, IfOk, IfErr};
-ghost use Rattle.ctl_tree.specs.Tokens.{StandsFor, OneList, line_at};
-ghost use Rattle.ctl_lexer.specs.Front.{IsPiece, FaultAt, FaultOf, NoList, tokens_of};
+ghost use Rattle.std.specs.Prelude.{◌≡◌, ◌<◌, ◌≤◌, ◌+◌, ◌++◌, length, drop, IfOk, IfErr};
+ghost use Rattle.ctl_tree.specs.Tokens.{StandsFor};
+ghost use Rattle.ctl_tree.specs.Lines.{line_at};
+ghost use Rattle.ctl_base.specs.declared.limits.TheConstants.{TEXT_BYTES};
+ghost use Rattle.ctl_lexer.specs.Means.{IsPiece, FaultAt, tokens_of};
+ghost use Rattle.ctl_lexer.specs.Faults.{FaultOf, NoList};
 
 use crate::bytes::line_feeds;
 use crate::fault::LexFault;
@@ -15,7 +18,7 @@ use std::alloc::Global;
 // The line after some more bytes.
 #[tactic(auto, using(crate::proofs::Cover::count_more))]
 fn line_after(bytes: &[u8], at: usize, n: usize, line: u32) -> u32
-    requires short { length bytes.now ≤ 2 ^ 24 }
+    requires short { length bytes.now ≤ TEXT_BYTES }
     requires within { at + n ≤ length bytes.now }
     requires counted { line ≡ line_at bytes.now at }
     ensures { result ≡ line_at bytes.now (at + n) }
@@ -25,7 +28,7 @@ fn line_after(bytes: &[u8], at: usize, n: usize, line: u32) -> u32
 
 // The piece that begins at a byte of a text.
 fn piece_from(bytes: &[u8], at: usize, line: u32) -> Result<Piece, LexFault>
-    requires short { length bytes.now ≤ 2 ^ 24 }
+    requires short { length bytes.now ≤ TEXT_BYTES }
     requires within { at < length bytes.now }
     ensures piece { IfOk result (λ piece. IsPiece FRACTION (drop at bytes.now) piece) }
     ensures fault { IfErr result (FaultAt FRACTION bytes.now at line) }
@@ -48,7 +51,7 @@ fn put(
     at: u32,
     line: u32,
 ) -> Result<(), Memory>
-    requires { len ≤ 2 ^ 24 }
+    requires { len ≤ TEXT_BYTES }
     ensures { IfOk result (λ _. tokens.new ≡ tokens.old ++ tokens_of kind len at line) }
 {
     match kind {
@@ -64,7 +67,7 @@ fn put(
 
 /// The tokens of a text of at most 2^24 bytes, or where and why it has none.
 pub fn lex(alloc: Global, bytes: &[u8]) -> Result<TokenList, LexFault>
-    requires { length bytes.now ≤ 2 ^ 24 }
+    requires { length bytes.now ≤ TEXT_BYTES }
     ensures stands { IfOk result (λ tokens. StandsFor FRACTION tokens bytes.now) }
     ensures fault { IfErr result (FaultOf FRACTION bytes.now) }
     ensures none { IfErr result (NoList FRACTION bytes.now) }
@@ -84,8 +87,3 @@ pub fn lex(alloc: Global, bytes: &[u8]) -> Result<TokenList, LexFault>
     }
     Ok(tokens)
 }
-
-/// The law that a text has at most one list of tokens.
-pub fn one_list()
-    ensures { OneList }
-{}

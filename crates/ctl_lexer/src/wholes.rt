@@ -2,8 +2,10 @@
 
 ghost use Rattle.std.specs.Prelude.{◌≡◌, ◌<◌, ◌≤◌, ◌^◌, ℕ, All, length, true, MatchOption};
 ghost use Rattle.fix_num.specs.Decimal.{IsDigit, number};
-ghost use Rattle.ctl_tree.specs.Lexeme.{begins_hexadecimal, hexadecimal_digit, hexadecimal_number, IsHexadecimalDigit, IsDigits, IsHexadecimal, IsWhole};
-ghost use Rattle.ctl_lexer.specs.Front.{NoDigits, NoHexadecimal, NoWhole};
+ghost use Rattle.ctl_tree.specs.TokenBytes.{begins_hexadecimal, hexadecimal_digit, hexadecimal_number, IsHexadecimalDigit, IsDigits, IsHexadecimal, IsWhole};
+ghost use Rattle.ctl_lexer.specs.Means.{NoDigits, NoHexadecimal, NoWhole};
+
+use fix_num::digits_grow;
 
 // The first number that a whole number cannot be.
 const LIMIT: u64 = 1 << 32;
@@ -19,6 +21,7 @@ fn decimal_value(digits: &[u8]) -> Option<u64>
     requires { All IsDigit digits.now }
     ensures { MatchOption result (2 ^ 32 ≤ number digits.now) (λ n. (n ≡ number digits.now) × (n < 2 ^ 32)) }
 {
+    digits_grow();
     let mut value = 0;
     for b in digits {
         value = 10 * value + (*b - b'0') as u64;

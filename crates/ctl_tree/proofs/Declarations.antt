@@ -1,4 +1,5 @@
--- From one place at most one size, initialiser, constant and variable stands, with one end, whatever nesting is allowed.
+-- From one place at most one size, initialiser, constant and variable stands, with one end, whatever nesting is
+-- allowed.
 use Rattle.std.proofs.Common.{◌≡◌, ℕ, ◌+◌, List, ◌∷◌, Option, Some, None, ap, sym, ◌∙◌, refl}
 use Rattle.ctl_tree.specs.declared.sign.Sign.TheVariants.{CloseSquare}
 use Rattle.ctl_tree.specs.declared.declaration.ArraySize.{ArraySize}
@@ -7,13 +8,12 @@ use Rattle.ctl_tree.specs.declared.declaration.Initialiser.TheVariants.{Expr as 
 use Rattle.ctl_tree.specs.declared.declaration.BraceList.{roll-BraceList}
 use Rattle.ctl_tree.specs.declared.declaration.Constant.{Constant}
 use Rattle.ctl_tree.specs.declared.declaration.Variable.{Variable}
-use Rattle.ctl_tree.specs.declared.definition.SizeExpr.{SizeExpr}
 use Rattle.ctl_tree.specs.Lexemes.{Lexeme}
 use Rattle.ctl_tree.specs.Declarations.{AreSizes, no_size, sizes, AreArraySizes, no_array_size, open_size, stated_size, IsInitialiser, one, brace_list, AreMoreElements, elements_end, more_elements, IsValue, no_value, value, IsConstant, constant, IsVariable, variable}
 use Rattle.ctl_tree.proofs.Names.{same_name, same_shape}
 use Rattle.ctl_tree.proofs.Expressions.{operand_begins, same_operand}
 
-pub same_sizes : {lexemes : List Lexeme} {limit limit' : Option ℕ} {n n' i i' : ℕ} {es es' : List SizeExpr} {j j' : ℕ} → i ≡ i'
+pub same_sizes : {lexemes : List Lexeme} {limit limit' : Option ℕ} {n n' i i' : ℕ} {es es' : List ArraySize} {j j' : ℕ} → i ≡ i'
     → AreSizes lexemes limit n i es j → AreSizes lexemes limit' n' i' es' j' → (es ≡ es') × (j ≡ j')
 same_sizes q (no_size lacks is) (no_size lacks' is') = (refl, cc)
 same_sizes q (no_size lacks is) (sizes k' sees' within' h' close' more') = absurd (lacks cc)
@@ -21,7 +21,7 @@ same_sizes q (sizes k sees within h close more) (no_size lacks' is') = absurd (l
 same_sizes q (sizes k sees within h close more) (sizes k' sees' within' h' close' more') =
     let inner = same_operand (ap (λ x. x + 1) q) h h' in
     let others = same_sizes (ap (λ x. x + 1) inner.1) more more' in
-    ((λ x. record { size = inner.0 x; token = q x } ∷ others.0 x), others.1)
+    ((λ x. record { size = Some (inner.0 x); token = q x } ∷ others.0 x), others.1)
 
 pub same_array_sizes : {lexemes : List Lexeme} {limit limit' : Option ℕ} {n n' i i' : ℕ} {es es' : List ArraySize} {j j' : ℕ} → i ≡ i'
     → AreArraySizes lexemes limit n i es j → AreArraySizes lexemes limit' n' i' es' j' → (es ≡ es') × (j ≡ j')

@@ -1,8 +1,9 @@
-pub mod Names
-pub mod Expressions
-pub mod Declarations
-pub mod Statements
-pub mod Modules
-pub mod OwnTokens
-pub mod OwnTokensStand
-pub mod OwnTokensParts
+mod Names
+mod Expressions
+mod Declarations
+mod Statements
+mod Modules
+mod OwnTokens
+mod OwnTokensStand
+mod Unlimited
+mod Faults

@@ -1,4 +1,5 @@
--- From one place at most one definition stands, with one end, and the tokens spell at most one module, whatever nesting is allowed.
+-- From one place at most one definition stands, with one end, and the tokens spell at most one module, whatever nesting
+-- is allowed.
 use Rattle.std.proofs.Common.{◌≡◌, ◌≢◌, ℕ, ◌+◌, arith, true, List, ◌∷◌, Option, Some, None, ap, sym, ◌∙◌, refl}
 use Rattle.ctl_tree.specs.declared.keyword.Keyword.TheVariants.{Bool as BoolWord, Int as IntWord, Half as HalfWord, Float as FloatWord, Unsigned as UnsignedWord, Const as ConstWord, Namespace as NamespaceWord, Struct as StructWord, Uniform as UniformWord, Varying as VaryingWord}
 use Rattle.ctl_tree.specs.declared.sign.Sign.TheVariants.{CloseCurly, ColonColon}
@@ -19,7 +20,7 @@ use Rattle.ctl_tree.specs.declared.definition.Module.{Module}
 use Rattle.ctl_tree.specs.Lexemes.{Lexeme, kind_at, bytes_at}
 use Rattle.ctl_tree.specs.Declarations.{constant}
 use Rattle.ctl_tree.specs.Modules.{direction_of, level_of, AreQualifiers, no_qualifier, direction_alone, level_alone, direction_first, level_first, IsParameter, parameter, AreMoreParameters, parameters_end, more_parameters, AreParameters, no_parameter, parameters, IsResult, no_result, result, IsFunction, function, IsField, field_of, AreMoreFields, fields_end, more_fields, MayEnd, unended, ended, IsStruct, structure, ends, IsDefinition, namespace, struct_definition, constant_definition, function_definition, AreDefinitions, definitions_end, definitions, AreImports, no_import, imports, IsVersion, no_version, version, IsModule, module_of}
-use Rattle.ctl_tree.specs.Texts.{text_bytes}
+use Rattle.ctl_tree.specs.Texts.{unquoted}
 use Rattle.ctl_tree.proofs.Names.{same_name, same_shape, begins_shape, shape_begins}
 use Rattle.ctl_tree.proofs.Declarations.{same_sizes, same_array_sizes, same_value, same_constant}
 use Rattle.ctl_tree.proofs.Statements.{same_block}
@@ -226,7 +227,7 @@ same_imports q (no_import lacks is) (imports sees' text' printable' semicolon' m
 same_imports q (imports sees text printable semicolon more) (no_import lacks' is') = absurd (lacks' cc)
 same_imports {lexemes = lexemes} q (imports sees text printable semicolon more) (imports sees' text' printable' semicolon' more') =
     let others = same_imports (ap (λ x. x + 3) q) more more' in
-    ((λ x. record { name = text_bytes (bytes_at lexemes (q x + 1)); token = q x + 1 } ∷ others.0 x), others.1)
+    ((λ x. record { name = unquoted (bytes_at lexemes (q x + 1)); token = q x + 1 } ∷ others.0 x), others.1)
 
 same_version : {lexemes : List Lexeme} {i i' j j' : ℕ} → i ≡ i' → IsVersion lexemes i j → IsVersion lexemes i' j' → j ≡ j'
 same_version q (no_version lacks is) (no_version lacks' is') = cc

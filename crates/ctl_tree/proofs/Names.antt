@@ -10,34 +10,34 @@ use Rattle.ctl_tree.specs.declared.declaration.ShapeKind.{ShapeKind}
 use Rattle.ctl_tree.specs.declared.declaration.ShapeKind.TheVariants.{Unsigned as UnsignedShape, Named}
 use Rattle.ctl_tree.specs.declared.declaration.ShapeName.{ShapeName}
 use Rattle.ctl_tree.specs.Lexemes.{Lexeme, kind_at, bytes_at, SeesWord, SeesName}
-use Rattle.ctl_tree.specs.Names.{AreMoreNames, no_name, more_names, IsQualifiedName, local_name, global_name, shape_of, IsShape, word_shape, unsigned_shape, unsigned_int_shape, named_shape}
+use Rattle.ctl_tree.specs.Names.{AreNames, last_name, space, IsQualifiedName, local_name, global_name, shape_of, IsShape, word_shape, unsigned_shape, unsigned_int_shape, named_shape}
 
 -- one place has one name
 pub same_name : (lexemes : List Lexeme) {i i' : ℕ} {name name' : List ℕ} → i ≡ i' → SeesName lexemes i name → SeesName lexemes i' name' → name ≡ name'
 same_name lexemes q s s' = s.1 ∙ ap (bytes_at lexemes) q ∙ sym s'.1
 
-pub same_more_names : {lexemes : List Lexeme} {i i' : ℕ} {names names' : List (List ℕ)} {j j' : ℕ} → i ≡ i' → AreMoreNames lexemes i names j → AreMoreNames lexemes i' names' j'
-    → (names ≡ names') × (j ≡ j')
-same_more_names q (no_name lacks is) (no_name lacks' is') = (refl, cc)
-same_more_names q (no_name lacks is) (more_names sees' name' more') = absurd (lacks cc)
-same_more_names q (more_names sees name more) (no_name lacks' is') = absurd (lacks' cc)
-same_more_names q (more_names sees name more) (more_names sees' name' more') =
-    let first = same_name _ (ap (λ x. x + 1) q) name name' in
-    let others = same_more_names (ap (λ x. x + 2) q) more more' in
-    ((λ x. first x ∷ others.0 x), others.1)
+same_names : {lexemes : List Lexeme} {i i' : ℕ} {spaces spaces' : List (List ℕ)} {name name' : List ℕ} {j j' : ℕ} → i ≡ i' → AreNames lexemes i spaces name j
+    → AreNames lexemes i' spaces' name' j' → (spaces ≡ spaces') × (name ≡ name') × (j ≡ j')
+same_names q (last_name name lacks is) (last_name name' lacks' is') = (refl, same_name _ q name name', cc)
+same_names q (last_name name lacks is) (space name' sees' more') = absurd (lacks cc)
+same_names q (space name sees more) (last_name name' lacks' is') = absurd (lacks' cc)
+same_names q (space name sees more) (space name' sees' more') =
+    let first = same_name _ q name name' in
+    let others = same_names (ap (λ x. x + 2) q) more more' in
+    ((λ x. first x ∷ others.0 x), others.1, others.2)
 
 pub same_qualified_name : {lexemes : List Lexeme} {i i' : ℕ} {name name' : QualifiedName} {j j' : ℕ} → i ≡ i' → IsQualifiedName lexemes i name j → IsQualifiedName lexemes i' name' j'
     → (name ≡ name') × (j ≡ j')
-same_qualified_name q (local_name name more) (local_name name' more') =
-    let first = same_name _ q name name' in
-    let others = same_more_names (ap (λ x. x + 1) q) more more' in
-    ((λ x. record { is_global = false; names = first x ∷ others.0 x; token = others.1 x - 1 }), others.1)
-same_qualified_name q (local_name name more) (global_name sees' name' more') = absurd cc
-same_qualified_name q (global_name sees name more) (local_name name' more') = absurd cc
-same_qualified_name q (global_name sees name more) (global_name sees' name' more') =
-    let first = same_name _ (ap (λ x. x + 1) q) name name' in
-    let others = same_more_names (ap (λ x. x + 2) q) more more' in
-    ((λ x. record { is_global = true; names = first x ∷ others.0 x; token = others.1 x - 1 }), others.1)
+same_qualified_name q (local_name names) (local_name names') =
+    let same = same_names q names names' in
+    ((λ x. record { is_global = false; spaces = same.0 x; name = same.1 x; token = same.2 x - 1 }), same.2)
+same_qualified_name q (local_name (last_name name lacks is)) (global_name sees' names') = absurd (let seen = name.0 in cc)
+same_qualified_name q (local_name (space name sees more)) (global_name sees' names') = absurd (let seen = name.0 in cc)
+same_qualified_name q (global_name sees names) (local_name (last_name name' lacks' is')) = absurd (let seen = name'.0 in cc)
+same_qualified_name q (global_name sees names) (local_name (space name' sees' more')) = absurd (let seen = name'.0 in cc)
+same_qualified_name q (global_name sees names) (global_name sees' names') =
+    let same = same_names (ap (λ x. x + 1) q) names names' in
+    ((λ x. record { is_global = true; spaces = same.0 x; name = same.1 x; token = same.2 x - 1 }), same.2)
 
 -- the first token of a name is a name or `::`
 abbrev pub begins_name : Option TokenKind → Bool
@@ -46,8 +46,9 @@ begins_name (Some (SignKind ColonColon)) = true
 begins_name _ = false
 
 pub name_begins : {lexemes : List Lexeme} {i : ℕ} {name : QualifiedName} {j : ℕ} → IsQualifiedName lexemes i name j → begins_name (kind_at lexemes i) ≡ true
-name_begins (local_name name more) = ap begins_name name.0
-name_begins (global_name sees name more) = ap begins_name sees
+name_begins (local_name (last_name name lacks is)) = ap begins_name name.0
+name_begins (local_name (space name sees more)) = ap begins_name name.0
+name_begins (global_name sees names) = ap begins_name sees
 
 -- a name and a keyword begin at no one place
 pub name_no_word : {lexemes : List Lexeme} {i i' : ℕ} {name : QualifiedName} {j : ℕ} → i ≡ i' → IsQualifiedName lexemes i name j → (word : Keyword) → SeesWord lexemes i' word → ⊥

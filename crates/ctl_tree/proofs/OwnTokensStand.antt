@@ -1,13 +1,11 @@
 -- The own token of each form that stands among tokens is one of them.
-use Rattle.std.proofs.Common.{◌≡◌, ◌≢◌, ℕ, ◌+◌, ◌<◌, ◌≤◌, arith, List, [], ◌∷◌, ◌++◌, length, fold, Option, Some, None, ap, sym, subst, refl}
+use Rattle.std.proofs.Common.{◌≡◌, ◌≢◌, ℕ, ◌<◌, ◌≤◌, arith, List, [], ◌∷◌, ◌++◌, length, fold, Option, Some, None, ap, sym, subst, refl}
 use Rattle.std.specs.Prelude.{slice_get}
 use Rattle.std.specs.Option.{option_map}
-use Rattle.std.proofs.lemmas.List.{length-map}
 use Rattle.std.proofs.lemmas.Option.{slice_get_within}
 use Rattle.std.proofs.lemmas.List.Elements.{All-nil, All-cons, All-append}
 use Rattle.ctl_tree.specs.declared.keyword.Keyword.{Keyword}
 use Rattle.ctl_tree.specs.declared.keyword.Keyword.TheVariants.{Bool as BoolWord, Int as IntWord, Half as HalfWord, Float as FloatWord}
-use Rattle.ctl_tree.specs.declared.token.Token.{Token}
 use Rattle.ctl_tree.specs.declared.token.TokenKind.{TokenKind}
 use Rattle.ctl_tree.specs.declared.expression.QualifiedName.{QualifiedName}
 use Rattle.ctl_tree.specs.declared.expression.Expr.{Expr}
@@ -16,8 +14,8 @@ use Rattle.ctl_tree.specs.declared.expression.Link.{Link, out-Link}
 use Rattle.ctl_tree.specs.declared.expression.Step.{Step}
 use Rattle.ctl_tree.specs.declared.declaration.ShapeKind.{ShapeKind}
 use Rattle.ctl_tree.specs.declared.declaration.ShapeName.{ShapeName}
-use Rattle.ctl_tree.specs.Lexemes.{Lexeme, lexemes_of, kind_at}
-use Rattle.ctl_tree.specs.Names.{AreMoreNames, no_name, more_names, IsQualifiedName, local_name, global_name, shape_of, IsShape, word_shape, unsigned_shape, unsigned_int_shape, named_shape, literal_of, unary_operator_of, operator_of}
+use Rattle.ctl_tree.specs.Lexemes.{Lexeme, kind_at}
+use Rattle.ctl_tree.specs.Names.{AreNames, last_name, space, IsQualifiedName, local_name, global_name, shape_of, IsShape, word_shape, unsigned_shape, unsigned_int_shape, named_shape, literal_of, unary_operator_of, operator_of}
 use Rattle.ctl_tree.specs.Expressions.{last_operator, IsOperand, linked, alone, tightest, AreLinks, no_link, more_links, IsUnary, operated, plain, IsPostfix, stepped, bare, AreSteps, no_step, index_step, field_step, IsPrimary, literal, named, called, bracketed, IsCall, call_of, AreArguments, no_argument, arguments, AreMoreArguments, arguments_end, more_arguments}
 use Rattle.ctl_tree.specs.declared.declaration.ArraySize.{ArraySize}
 use Rattle.ctl_tree.specs.declared.declaration.Initialiser.{Initialiser}
@@ -31,7 +29,6 @@ use Rattle.ctl_tree.specs.declared.statement.Block.{Block}
 use Rattle.ctl_tree.specs.declared.statement.Arm.{Arm}
 use Rattle.ctl_tree.specs.declared.definition.Parameter.{Parameter}
 use Rattle.ctl_tree.specs.declared.definition.SizedShape.{SizedShape}
-use Rattle.ctl_tree.specs.declared.definition.SizeExpr.{SizeExpr}
 use Rattle.ctl_tree.specs.declared.definition.Function.{Function}
 use Rattle.ctl_tree.specs.declared.definition.Field.{Field}
 use Rattle.ctl_tree.specs.declared.definition.Struct.{Struct}
@@ -41,7 +38,7 @@ use Rattle.ctl_tree.specs.declared.definition.Module.{Module}
 use Rattle.ctl_tree.specs.Declarations.{AreSizes, no_size, sizes, AreArraySizes, no_array_size, open_size, stated_size, IsInitialiser, one, brace_list, AreMoreElements, elements_end, more_elements, IsValue, no_value, value, IsConstant, constant, IsVariable, variable}
 use Rattle.ctl_tree.specs.Statements.{IsAssignment, assignment, IsItem, text_item, expr_item, AreMoreItems, items_end, more_items, IsForStart, variable_start, assignment_start, IsStatement, block_statement, constant_statement, variable_statement, assignment_statement, call_statement, if_statement, while_statement, for_statement, return_nothing, return_value, print_statement, empty_statement, IsBlock, block, AreStatements, statements_end, statements, IsArm, arm, AreElses, no_else, last_else, more_arms}
 use Rattle.ctl_tree.specs.Modules.{IsParameter, parameter, AreMoreParameters, parameters_end, more_parameters, AreParameters, no_parameter, parameters, IsResult, no_result, result, IsFunction, function, IsField, field_of, AreMoreFields, fields_end, more_fields, IsStruct, structure, IsDefinition, namespace, struct_definition, constant_definition, function_definition, AreDefinitions, definitions_end, definitions, AreImports, no_import, imports, IsModule, module_of}
-use Rattle.ctl_tree.specs.OwnTokens.{Tokens, Below, OwnTokensBelow, all_tokens, some_tokens, shape_kind_tokens, shape_tokens, expr_tokens, link_tokens, step_tokens, call_tokens, size_tokens, array_size_tokens, initialiser_tokens, constant_tokens, variable_tokens, assignment_tokens, item_tokens, start_tokens, statement_tokens, block_tokens, arm_tokens, parameter_tokens, sized_shape_tokens, function_tokens, field_tokens, struct_tokens, definition_tokens, import_tokens}
+use Rattle.ctl_tree.specs.OwnTokens.{Tokens, Below, OwnTokensBelow, all_tokens, some_tokens, shape_kind_tokens, shape_tokens, expr_tokens, link_tokens, step_tokens, call_tokens, array_size_tokens, initialiser_tokens, constant_tokens, variable_tokens, assignment_tokens, item_tokens, start_tokens, statement_tokens, block_tokens, arm_tokens, parameter_tokens, sized_shape_tokens, function_tokens, field_tokens, struct_tokens, definition_tokens, import_tokens}
 use Rattle.ctl_tree.proofs.OwnTokens.{literal_is, name_is, call_form_is, call_is, path_is, unary_is, chain_is, link_is, index_is, field_is, expr_form_is, brace_list_is, block_form_is, constant_form_is, variable_form_is, assignment_form_is, call_statement_is, if_is, while_is, for_is, return_is, print_is, empty_is, block_is, arm_is, namespace_is, struct_is, constant_definition_is, function_is}
 
 -- Tokens below a number
@@ -83,24 +80,13 @@ known_at f lexemes i none known = known_there f lexemes i (kind_at lexemes i) no
 
 -- Names and shapes
 
-more_names_end : {lexemes : List Lexeme} {i : ℕ} {names : List (List ℕ)} {j : ℕ} → AreMoreNames lexemes i names j → (i ≤ j) × (i ≤ length lexemes → j ≤ length lexemes)
-more_names_end (no_name lacks is) = (omega arith, λ within. omega arith)
-more_names_end {lexemes = lexemes} {i = i} (more_names sees name more) =
-    let others = more_names_end more in
-    let here = seen lexemes (i + 1) name.0 in
-    (omega arith, λ within. others.1 (omega arith))
+names_end : {lexemes : List Lexeme} {i : ℕ} {spaces : List (List ℕ)} {name : List ℕ} {j : ℕ} → AreNames lexemes i spaces name j → (0 < j) × (j ≤ length lexemes)
+names_end {lexemes = lexemes} {i = i} (last_name name lacks is) = let here = seen lexemes i name.0 in (omega arith, omega arith)
+names_end (space name sees more) = names_end more
 
 name_stands : {lexemes : List Lexeme} {i : ℕ} {name : QualifiedName} {j : ℕ} → IsQualifiedName lexemes i name j → name.token < length lexemes
-name_stands {lexemes = lexemes} {i = i} (local_name name more) =
-    let others = more_names_end more in
-    let here = seen lexemes i name.0 in
-    let end = others.1 (omega arith) in
-    omega arith
-name_stands {lexemes = lexemes} {i = i} (global_name sees name more) =
-    let others = more_names_end more in
-    let here = seen lexemes (i + 1) name.0 in
-    let end = others.1 (omega arith) in
-    omega arith
+name_stands {lexemes = lexemes} (local_name names) = let end = names_end names in omega arith
+name_stands {lexemes = lexemes} (global_name sees names) = let end = names_end names in omega arith
 
 word_kind : (word : Keyword) {kind : ShapeKind} → shape_of word ≡ Some kind → shape_kind_tokens kind ≡ []
 word_kind BoolWord known = sym (ap (some_tokens shape_kind_tokens) known)
@@ -177,8 +163,8 @@ mutual
 
 -- Declarations
 
-sizes_stand : {lexemes : List Lexeme} {limit : Option ℕ} {n i : ℕ} {forms : List SizeExpr} {j : ℕ} → AreSizes lexemes limit n i forms j
-    → Stand (length lexemes) (all_tokens size_tokens forms)
+sizes_stand : {lexemes : List Lexeme} {limit : Option ℕ} {n i : ℕ} {forms : List ArraySize} {j : ℕ} → AreSizes lexemes limit n i forms j
+    → Stand (length lexemes) (all_tokens array_size_tokens forms)
 sizes_stand (no_size lacks is) = no_token
 sizes_stand (sizes k sees within h close more) = both (own (seen _ _ sees) (operand_stands h)) (sizes_stand more)
 
@@ -333,7 +319,3 @@ imports_stand (imports sees text printable semicolon more) = both (own (seen _ _
 
 pub module_stands : {lexemes : List Lexeme} {limit : Option ℕ} {m : Module} → IsModule lexemes limit m → OwnTokensBelow (length lexemes) m
 module_stands (module_of i j begin brought h) = (both (imports_stand brought) (definitions_stand h)).below
-
--- the same of the tokens of a source
-pub source_module_stands : (source : List ℕ) (tokens : List Token) {limit : Option ℕ} {m : Module} → IsModule (lexemes_of source tokens) limit m → OwnTokensBelow (length tokens) m
-source_module_stands source tokens {m = m} h = subst (λ n. OwnTokensBelow n m) (length-map tokens _) (module_stands h)

@@ -26,7 +26,7 @@ use Rattle.ctl_tree.specs.Names.{IsQualifiedName, IsShape, word_shape, unsigned_
 use Rattle.ctl_tree.specs.Expressions.{AreSteps, no_step, index_step, field_step, IsCall, call_of}
 use Rattle.ctl_tree.specs.Declarations.{constant, IsVariable, variable}
 use Rattle.ctl_tree.specs.Statements.{IsAssignment, assignment, IsItem, text_item, expr_item, AreMoreItems, items_end, more_items, IsForStart, variable_start, assignment_start, IsStatement, block_statement, constant_statement, variable_statement, assignment_statement, call_statement, if_statement, while_statement, for_statement, return_nothing, return_value, print_statement, empty_statement, IsBlock, block, AreStatements, statements_end, statements, IsArm, arm, AreElses, no_else, last_else, more_arms}
-use Rattle.ctl_tree.specs.Texts.{text_bytes}
+use Rattle.ctl_tree.specs.Texts.{unquoted}
 use Rattle.ctl_tree.proofs.Names.{name_begins, name_no_word, same_qualified_name, begins_shape, name_begins_shape, shape_begins}
 use Rattle.ctl_tree.proofs.Expressions.{same_operand, same_steps, same_call}
 use Rattle.ctl_tree.proofs.Declarations.{same_constant, same_variable}
@@ -83,7 +83,7 @@ assignment_no_call q (assignment k m root steps sees h) (call_of k' root' sees' 
 
 pub same_item : {lexemes : List Lexeme} {limit limit' : Option ℕ} {n n' i i' : ℕ} {item item' : PrintItem} {j j' : ℕ} → i ≡ i'
     → IsItem lexemes limit n i item j → IsItem lexemes limit' n' i' item' j' → (item ≡ item') × (j ≡ j')
-same_item {lexemes = lexemes} q (text_item sees is) (text_item sees' is') = ((λ x. Text (record { text = text_bytes (bytes_at lexemes (q x)); token = q x })), cc)
+same_item {lexemes = lexemes} q (text_item sees is) (text_item sees' is') = ((λ x. Text (record { text = unquoted (bytes_at lexemes (q x)); token = q x })), cc)
 same_item q (text_item sees is) (expr_item lacks' within' h') = absurd (lacks' cc)
 same_item q (expr_item lacks within h) (text_item sees' is') = absurd (lacks cc)
 same_item q (expr_item lacks within h) (expr_item lacks' within' h') =

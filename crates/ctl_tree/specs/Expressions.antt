@@ -5,7 +5,8 @@
 --     primary = WHOLE | POINT | HALF | "true" | "false" | qname | call | "(" expr ")"
 --     call    = qname "(" [ expr { "," expr } ] ")"
 -- The levels from loosest to tightest: ||   &&   |   ^   &   == !=   < <= > >=   << >>   + -   * / %
--- A fact says that a form of a nesting stands from one place of the tokens up to another. A list goes on as long as it can.
+-- A fact says that a form of a nesting stands from one place of the tokens up to another. A list goes on as long as it
+-- can.
 use Rattle.std.specs.Prelude.{◌≡◌, ◌≢◌, ℕ, ◌+◌, ◌<◌, List, [], ◌∷◌, Option, Some, None, fold}
 use Rattle.ctl_tree.specs.declared.sign.Sign.TheVariants.{OpenRound, CloseRound, OpenSquare, CloseSquare, Comma, Dot}
 use Rattle.ctl_tree.specs.declared.expression.LiteralValue.{LiteralValue}
@@ -30,7 +31,8 @@ abbrev pub last_operator : List Link → ℕ
 last_operator = fold (λ before (link : Link). (out-Link link).token) 0
 
 mutual
-  -- an operand at a level: a chain of that level, or an operand of the next tighter one. Tighter than all is a unary form
+  -- an operand at a level: a chain of that level, or an operand of the next tighter one. Tighter than all is a unary
+  -- form
   pub data IsOperand (lexemes : List Lexeme) (limit : Option ℕ) : ℕ → ℕ → ℕ → Expr → ℕ → Type 0 where
     linked : {level n i j : ℕ} {first : Expr} {links : List Link} (k : ℕ) → level < operator_levels
         → IsOperand lexemes limit (level + 1) n i first k → AreLinks lexemes limit level n k links j → links ≢ []

@@ -1,16 +1,22 @@
 -- The tokens as the grammar reads them: each with the bytes of its span, named by its place in the list.
 use Rattle.std.specs.Prelude.{◌≡◌, ◌≢◌, ℕ, ◌≤◌, List, [], map, take, drop, Option, Some, None, slice_get}
 use Rattle.std.specs.Option.{option_map}
+use Rattle.fix_num.specs.declared.TheConstants.{FRACTION}
 use Rattle.ctl_tree.specs.declared.keyword.Keyword.{Keyword}
 use Rattle.ctl_tree.specs.declared.sign.Sign.{Sign}
 use Rattle.ctl_tree.specs.declared.token.Token.{Token}
 use Rattle.ctl_tree.specs.declared.token.TokenKind.{TokenKind}
 use Rattle.ctl_tree.specs.declared.token.TokenKind.TheVariants.{Word, Name, Sign as SignKind}
+use Rattle.ctl_tree.specs.TokenBytes.{SpellsKind}
 
 -- a token's kind and the bytes of its span
 pub record Lexeme : Type 0 where
   pub kind : TokenKind
   pub bytes : List ℕ
+
+-- the bytes spell a token of the kind
+abbrev pub IsSpelt : Lexeme → Type 0
+IsSpelt lexeme = SpellsKind FRACTION lexeme.kind lexeme.bytes
 
 -- the tokens of a source, each with its bytes
 abbrev pub lexemes_of : List ℕ → List Token → List Lexeme

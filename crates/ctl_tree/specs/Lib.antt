@@ -1,5 +1,6 @@
 pub mod Spelling
-pub mod Lexeme
+pub mod TokenBytes
+pub mod Lines
 pub mod Tokens
 pub mod Lexemes
 pub mod Texts
@@ -9,6 +10,7 @@ pub mod Declarations
 pub mod Statements
 pub mod Modules
 pub mod Beginnings
-pub mod Laws
+pub mod Folds
 pub mod OwnTokens
+pub mod Laws
 pub mod Units

@@ -11,7 +11,8 @@
 --     quals      = [ io ] [ level ] | level io
 --     io         = "input" | "output"
 --     level      = "uniform" | "varying"
--- A fact says that a form of a nesting stands from one place of the tokens up to another. A list goes on as long as it can.
+-- A fact says that a form of a nesting stands from one place of the tokens up to another. A list goes on as long as it
+-- can.
 use Rattle.std.specs.Prelude.{◌≡◌, ℕ, ◌+◌, ◌≤◌, List, [], ◌∷◌, Option, Some, None, length, All, Bool, true, false}
 use Rattle.ctl_tree.specs.declared.keyword.Keyword.TheVariants.{Ctlversion, Import as ImportWord, Namespace as NamespaceWord, Struct as StructWord, Void, Input as InputWord, Output as OutputWord, Uniform as UniformWord, Varying as VaryingWord}
 use Rattle.ctl_tree.specs.declared.sign.Sign.TheVariants.{OpenRound, CloseRound, OpenCurly, CloseCurly, Comma, Semicolon}
@@ -28,7 +29,6 @@ use Rattle.ctl_tree.specs.declared.definition.Level.{Level}
 use Rattle.ctl_tree.specs.declared.definition.Level.TheVariants.{Uniform, Varying}
 use Rattle.ctl_tree.specs.declared.definition.Parameter.{Parameter}
 use Rattle.ctl_tree.specs.declared.definition.SizedShape.{SizedShape}
-use Rattle.ctl_tree.specs.declared.definition.SizeExpr.{SizeExpr}
 use Rattle.ctl_tree.specs.declared.definition.Function.{Function}
 use Rattle.ctl_tree.specs.declared.definition.Field.{Field}
 use Rattle.ctl_tree.specs.declared.definition.Struct.{Struct}
@@ -41,7 +41,7 @@ use Rattle.ctl_tree.specs.Lexemes.{Lexeme, kind_at, bytes_at, SeesSign, LacksSig
 use Rattle.ctl_tree.specs.Names.{IsShape}
 use Rattle.ctl_tree.specs.Declarations.{AreSizes, AreArraySizes, IsValue, IsConstant}
 use Rattle.ctl_tree.specs.Statements.{IsBlock}
-use Rattle.ctl_tree.specs.Texts.{text_bytes}
+use Rattle.ctl_tree.specs.Texts.{unquoted}
 
 -- "input" | "output"
 abbrev pub direction_of : Option TokenKind → Option Direction
@@ -89,7 +89,7 @@ pub data AreParameters (lexemes : List Lexeme) (limit : Option ℕ) : ℕ → �
 -- "void" | shape { "[" expr "]" }
 pub data IsResult (lexemes : List Lexeme) (limit : Option ℕ) : ℕ → ℕ → Option SizedShape → ℕ → Type 0 where
   no_result : {n i j : ℕ} → SeesWord lexemes i Void → j ≡ i + 1 → IsResult lexemes limit n i None j
-  result : {n i j : ℕ} {shape : ShapeName} {sizes : List SizeExpr} (k : ℕ) → IsShape lexemes i shape k → AreSizes lexemes limit n k sizes j
+  result : {n i j : ℕ} {shape : ShapeName} {sizes : List ArraySize} (k : ℕ) → IsShape lexemes i shape k → AreSizes lexemes limit n k sizes j
       → IsResult lexemes limit n i (Some (record { shape = shape; sizes = sizes })) j
 
 -- result NAME "(" [ param { "," param } ] ")" block: the body is nested one deeper
@@ -101,7 +101,7 @@ pub data IsFunction (lexemes : List Lexeme) (limit : Option ℕ) : ℕ → ℕ �
 
 -- shape NAME { "[" expr "]" } ";"
 pub data IsField (lexemes : List Lexeme) (limit : Option ℕ) : ℕ → ℕ → Field → ℕ → Type 0 where
-  field_of : {n i j : ℕ} {shape : ShapeName} {name : List ℕ} {sizes : List SizeExpr} (k m : ℕ) → IsShape lexemes i shape k → SeesName lexemes k name
+  field_of : {n i j : ℕ} {shape : ShapeName} {name : List ℕ} {sizes : List ArraySize} (k m : ℕ) → IsShape lexemes i shape k → SeesName lexemes k name
       → AreSizes lexemes limit n (k + 1) sizes m → SeesSign lexemes m Semicolon → j ≡ m + 1
       → IsField lexemes limit n i (record { shape = shape; name = name; sizes = sizes; token = k }) j
 
@@ -151,9 +151,9 @@ IsPrintable b = (32 ≤ b) × (b ≤ 126)
 -- { import }
 pub data AreImports (lexemes : List Lexeme) : ℕ → List Import → ℕ → Type 0 where
   no_import : {i j : ℕ} → LacksWord lexemes i ImportWord → j ≡ i → AreImports lexemes i [] j
-  imports : {i j : ℕ} {more : List Import} → SeesWord lexemes i ImportWord → kind_at lexemes (i + 1) ≡ Some TextToken → All IsPrintable (text_bytes (bytes_at lexemes (i + 1)))
+  imports : {i j : ℕ} {more : List Import} → SeesWord lexemes i ImportWord → kind_at lexemes (i + 1) ≡ Some TextToken → All IsPrintable (unquoted (bytes_at lexemes (i + 1)))
       → SeesSign lexemes (i + 2) Semicolon → AreImports lexemes (i + 3) more j
-      → AreImports lexemes i (record { name = text_bytes (bytes_at lexemes (i + 1)); token = i + 1 } ∷ more) j
+      → AreImports lexemes i (record { name = unquoted (bytes_at lexemes (i + 1)); token = i + 1 } ∷ more) j
 
 -- [ "ctlversion" WHOLE ";" ]: the number is 1
 pub data IsVersion (lexemes : List Lexeme) : ℕ → ℕ → Type 0 where

@@ -21,18 +21,18 @@ use Rattle.ctl_tree.specs.declared.declaration.ShapeKind.TheVariants.{Bool as Bo
 use Rattle.ctl_tree.specs.declared.declaration.ShapeName.{ShapeName}
 use Rattle.ctl_tree.specs.Lexemes.{Lexeme, SeesSign, LacksSign, SeesWord, LacksWord, SeesName}
 
--- { "::" NAME }
-pub data AreMoreNames (lexemes : List Lexeme) : ℕ → List (List ℕ) → ℕ → Type 0 where
-  no_name : {i j : ℕ} → LacksSign lexemes i ColonColon → j ≡ i → AreMoreNames lexemes i [] j
-  more_names : {i j : ℕ} {name : List ℕ} {names : List (List ℕ)} → SeesSign lexemes i ColonColon → SeesName lexemes (i + 1) name
-      → AreMoreNames lexemes (i + 2) names j → AreMoreNames lexemes i (name ∷ names) j
+-- NAME { "::" NAME }: the last is the name, and those before it are its namespaces
+pub data AreNames (lexemes : List Lexeme) : ℕ → List (List ℕ) → List ℕ → ℕ → Type 0 where
+  last_name : {i j : ℕ} {name : List ℕ} → SeesName lexemes i name → LacksSign lexemes (i + 1) ColonColon → j ≡ i + 1 → AreNames lexemes i [] name j
+  space : {i j : ℕ} {space : List ℕ} {spaces : List (List ℕ)} {name : List ℕ} → SeesName lexemes i space → SeesSign lexemes (i + 1) ColonColon
+      → AreNames lexemes (i + 2) spaces name j → AreNames lexemes i (space ∷ spaces) name j
 
 -- [ "::" ] NAME { "::" NAME }: its own token is its last
 pub data IsQualifiedName (lexemes : List Lexeme) : ℕ → QualifiedName → ℕ → Type 0 where
-  local_name : {i j : ℕ} {name : List ℕ} {names : List (List ℕ)} → SeesName lexemes i name
-      → AreMoreNames lexemes (i + 1) names j → IsQualifiedName lexemes i (record { is_global = false; names = name ∷ names; token = j - 1 }) j
-  global_name : {i j : ℕ} {name : List ℕ} {names : List (List ℕ)} → SeesSign lexemes i ColonColon → SeesName lexemes (i + 1) name
-      → AreMoreNames lexemes (i + 2) names j → IsQualifiedName lexemes i (record { is_global = true; names = name ∷ names; token = j - 1 }) j
+  local_name : {i j : ℕ} {spaces : List (List ℕ)} {name : List ℕ} → AreNames lexemes i spaces name j
+      → IsQualifiedName lexemes i (record { is_global = false; spaces = spaces; name = name; token = j - 1 }) j
+  global_name : {i j : ℕ} {spaces : List (List ℕ)} {name : List ℕ} → SeesSign lexemes i ColonColon → AreNames lexemes (i + 1) spaces name j
+      → IsQualifiedName lexemes i (record { is_global = true; spaces = spaces; name = name; token = j - 1 }) j
 
 -- the shape that one keyword is
 abbrev pub shape_of : Keyword → Option ShapeKind
@@ -97,30 +97,30 @@ operator_named Percent = Some Remainder
 operator_named _ = None
 
 -- the level of an operator, from the loosest, 0, to the tightest, 9
-abbrev pub level_of : Operator → ℕ
-level_of Or = 0
-level_of And = 1
-level_of BitOr = 2
-level_of BitXor = 3
-level_of BitAnd = 4
-level_of Equal = 5
-level_of NotEqual = 5
-level_of Less = 6
-level_of AtMost = 6
-level_of Greater = 6
-level_of AtLeast = 6
-level_of ShiftLeft = 7
-level_of ShiftRight = 7
-level_of Add = 8
-level_of Subtract = 8
-level_of Multiply = 9
-level_of Divide = 9
-level_of Remainder = 9
+abbrev pub operator_level : Operator → ℕ
+operator_level Or = 0
+operator_level And = 1
+operator_level BitOr = 2
+operator_level BitXor = 3
+operator_level BitAnd = 4
+operator_level Equal = 5
+operator_level NotEqual = 5
+operator_level Less = 6
+operator_level AtMost = 6
+operator_level Greater = 6
+operator_level AtLeast = 6
+operator_level ShiftLeft = 7
+operator_level ShiftRight = 7
+operator_level Add = 8
+operator_level Subtract = 8
+operator_level Multiply = 9
+operator_level Divide = 9
+operator_level Remainder = 9
 
 -- an operator where it is of the level
 abbrev pub of_level : ℕ → Option Operator → Option Operator
 of_level level None = None
-of_level level (Some operator) = cond (level_of operator == level) (Some operator) None
+of_level level (Some operator) = cond (operator_level operator == level) (Some operator) None
 
 -- the operator of a level that a token is
 abbrev pub operator_of : ℕ → Option TokenKind → Option Operator

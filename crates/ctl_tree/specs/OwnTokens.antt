@@ -1,10 +1,9 @@
--- The own tokens of the forms of a module. Each form lists its own token, where it has one, and then those of its parts from the left.
-use Rattle.std.specs.Prelude.{ℕ, ◌<◌, List, [], ◌∷◌, ◌++◌, map, Option, Some, None, All}
+-- The own token of an expression, and those of the forms of a module: each form lists its own, where it has one, and
+-- then those of its parts from the left.
+use Rattle.std.specs.Prelude.{ℕ, ◌<◌, List, [], ◌∷◌, ◌++◌, map, fold, Option, Some, None, All}
 use Rattle.std.specs.List.{concat}
 use Rattle.ctl_tree.specs.declared.expression.QualifiedName.{QualifiedName}
 use Rattle.ctl_tree.specs.declared.expression.Expr.{Expr}
-use Rattle.ctl_tree.specs.declared.expression.Expr.TheOpen.{Expr-F, Step-F, Call-F, Chain-F, Index-F, Link-F, Path-F, Unary-F, Literal, Name, Call as CallForm, Path as PathForm, Unary as UnaryForm, Chain as ChainForm, Index as IndexForm, Field as FieldForm}
-use Rattle.ctl_tree.specs.declared.expression.Expr.TheFolds.{fold-Expr, fold-Step, fold-Call, fold-Link}
 use Rattle.ctl_tree.specs.declared.expression.Step.{Step}
 use Rattle.ctl_tree.specs.declared.expression.Call.{Call}
 use Rattle.ctl_tree.specs.declared.expression.Link.{Link}
@@ -32,7 +31,6 @@ use Rattle.ctl_tree.specs.declared.statement.Block.{Block}
 use Rattle.ctl_tree.specs.declared.statement.Arm.{Arm}
 use Rattle.ctl_tree.specs.declared.definition.Parameter.{Parameter}
 use Rattle.ctl_tree.specs.declared.definition.SizedShape.{SizedShape}
-use Rattle.ctl_tree.specs.declared.definition.SizeExpr.{SizeExpr}
 use Rattle.ctl_tree.specs.declared.definition.Function.{Function}
 use Rattle.ctl_tree.specs.declared.definition.Field.{Field}
 use Rattle.ctl_tree.specs.declared.definition.Struct.{Struct}
@@ -41,6 +39,35 @@ use Rattle.ctl_tree.specs.declared.definition.Definition.TheOpen.{Definition-F, 
 use Rattle.ctl_tree.specs.declared.definition.Definition.TheFolds.{fold-Definition}
 use Rattle.ctl_tree.specs.declared.definition.Import.{Import}
 use Rattle.ctl_tree.specs.declared.definition.Module.{Module}
+use Rattle.ctl_tree.specs.Folds.{ExprFold, expr_fold, step_fold, call_fold, link_fold}
+
+-- The own token of an expression
+
+-- the last of some tokens, of which there is at least one
+abbrev pub last_token : List ℕ → ℕ
+last_token = fold (λ before token. token) 0
+
+-- a path has that of its last step, each other form its own
+abbrev pub own : ExprFold ℕ ℕ ℕ
+own = record {
+  literal = λ literal. literal.token;
+  name = λ name. name.token;
+  call = λ name arguments token. token;
+  path = λ root steps. last_token steps;
+  unary = λ operator operand token. token;
+  chain = λ first links token. token;
+  index = λ index token. token;
+  field = λ field. field.token;
+  link = λ operator operand token. token;
+}
+
+abbrev pub own_token : Expr → ℕ
+own_token = expr_fold own
+
+abbrev pub step_token : Step → ℕ
+step_token = step_fold own
+
+-- The own tokens of all forms
 
 -- tokens by their places in the list of their module
 abbrev pub Tokens : Type 0
@@ -67,54 +94,34 @@ shape_kind_tokens _ = []
 abbrev pub shape_tokens : ShapeName → Tokens
 shape_tokens shape = shape.token ∷ shape_kind_tokens shape.kind
 
--- Expressions: a step lists the own tokens of one form, with those of its parts in their place
+-- Expressions
 
-abbrev pub expr_step : Expr-F Tokens Tokens Tokens Tokens Tokens Tokens Tokens Tokens → Tokens
-expr_step (Literal literal) = literal.token ∷ []
-expr_step (Name name) = name_tokens name
-expr_step (CallForm call) = call
-expr_step (PathForm path) = path
-expr_step (UnaryForm unary) = unary
-expr_step (ChainForm chain) = chain
-
-abbrev pub step_step : Step-F Tokens Tokens Tokens Tokens Tokens Tokens Tokens Tokens → Tokens
-step_step (IndexForm index) = index
-step_step (FieldForm field) = field.token ∷ []
-
-abbrev pub call_step : Call-F Tokens Tokens Tokens Tokens Tokens Tokens Tokens Tokens → Tokens
-call_step call = call.token ∷ (name_tokens call.name ++ concat call.arguments)
-
-abbrev pub chain_step : Chain-F Tokens Tokens Tokens Tokens Tokens Tokens Tokens Tokens → Tokens
-chain_step chain = chain.token ∷ (chain.first ++ concat chain.links)
-
-abbrev pub index_step : Index-F Tokens Tokens Tokens Tokens Tokens Tokens Tokens Tokens → Tokens
-index_step index = index.token ∷ index.index
-
-abbrev pub link_step : Link-F Tokens Tokens Tokens Tokens Tokens Tokens Tokens Tokens → Tokens
-link_step link = link.token ∷ link.operand
-
-abbrev pub path_step : Path-F Tokens Tokens Tokens Tokens Tokens Tokens Tokens Tokens → Tokens
-path_step path = path.root ++ concat path.steps
-
-abbrev pub unary_step : Unary-F Tokens Tokens Tokens Tokens Tokens Tokens Tokens Tokens → Tokens
-unary_step unary = unary.token ∷ unary.operand
+abbrev pub listed : ExprFold Tokens Tokens Tokens
+listed = record {
+  literal = λ literal. literal.token ∷ [];
+  name = name_tokens;
+  call = λ name arguments token. token ∷ (name_tokens name ++ concat arguments);
+  path = λ root steps. root ++ concat steps;
+  unary = λ operator operand token. token ∷ operand;
+  chain = λ first links token. token ∷ (first ++ concat links);
+  index = λ index token. token ∷ index;
+  field = λ field. field.token ∷ [];
+  link = λ operator operand token. token ∷ operand;
+}
 
 abbrev pub expr_tokens : Expr → Tokens
-expr_tokens = fold-Expr Tokens Tokens Tokens Tokens Tokens Tokens Tokens Tokens expr_step step_step call_step chain_step index_step link_step path_step unary_step
+expr_tokens = expr_fold listed
 
 abbrev pub step_tokens : Step → Tokens
-step_tokens = fold-Step Tokens Tokens Tokens Tokens Tokens Tokens Tokens Tokens expr_step step_step call_step chain_step index_step link_step path_step unary_step
+step_tokens = step_fold listed
 
 abbrev pub call_tokens : Call → Tokens
-call_tokens = fold-Call Tokens Tokens Tokens Tokens Tokens Tokens Tokens Tokens expr_step step_step call_step chain_step index_step link_step path_step unary_step
+call_tokens = call_fold listed
 
 abbrev pub link_tokens : Link → Tokens
-link_tokens = fold-Link Tokens Tokens Tokens Tokens Tokens Tokens Tokens Tokens expr_step step_step call_step chain_step index_step link_step path_step unary_step
+link_tokens = link_fold listed
 
 -- Declarations
-
-abbrev pub size_tokens : SizeExpr → Tokens
-size_tokens size = size.token ∷ expr_tokens size.size
 
 abbrev pub array_size_tokens : ArraySize → Tokens
 array_size_tokens size = size.token ∷ some_tokens expr_tokens size.size
@@ -200,13 +207,13 @@ abbrev pub parameter_tokens : Parameter → Tokens
 parameter_tokens parameter = parameter.token ∷ (shape_tokens parameter.shape ++ all_tokens array_size_tokens parameter.sizes ++ some_tokens initialiser_tokens parameter.value)
 
 abbrev pub sized_shape_tokens : SizedShape → Tokens
-sized_shape_tokens sized = shape_tokens sized.shape ++ all_tokens size_tokens sized.sizes
+sized_shape_tokens sized = shape_tokens sized.shape ++ all_tokens array_size_tokens sized.sizes
 
 abbrev pub function_tokens : Function → Tokens
 function_tokens function = function.token ∷ (some_tokens sized_shape_tokens function.result ++ all_tokens parameter_tokens function.parameters ++ block_tokens function.body)
 
 abbrev pub field_tokens : Field → Tokens
-field_tokens field = field.token ∷ (shape_tokens field.shape ++ all_tokens size_tokens field.sizes)
+field_tokens field = field.token ∷ (shape_tokens field.shape ++ all_tokens array_size_tokens field.sizes)
 
 abbrev pub struct_tokens : Struct → Tokens
 struct_tokens struct = struct.token ∷ all_tokens field_tokens struct.fields

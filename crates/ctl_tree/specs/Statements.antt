@@ -9,7 +9,8 @@
 --     return    = "return" [ expr ] ";"
 --     print     = "print" "(" item { "," item } ")" ";"
 --     item      = TEXT | expr
--- A fact says that a form of a nesting stands from one place of the tokens up to another. A list goes on as long as it can,
+-- A fact says that a form of a nesting stands from one place of the tokens up to another. A list goes on as long as it
+-- can,
 -- so an `else` belongs to the nearest `if` that can take it.
 use Rattle.std.specs.Prelude.{◌≡◌, ◌≢◌, ℕ, ◌+◌, List, [], ◌∷◌, Option, Some, None}
 use Rattle.ctl_tree.specs.declared.keyword.Keyword.TheVariants.{If as IfWord, Else, While as WhileWord, For as ForWord, Return as ReturnWord, Print as PrintWord}
@@ -37,7 +38,7 @@ use Rattle.ctl_tree.specs.Lexemes.{Lexeme, kind_at, bytes_at, SeesSign, LacksSig
 use Rattle.ctl_tree.specs.Names.{IsQualifiedName}
 use Rattle.ctl_tree.specs.Expressions.{IsExpr, IsCall, AreSteps}
 use Rattle.ctl_tree.specs.Declarations.{IsConstant, IsVariable}
-use Rattle.ctl_tree.specs.Texts.{text_bytes}
+use Rattle.ctl_tree.specs.Texts.{unquoted}
 
 -- place "=" expr: the indices of the place have the first nesting around them, the value has the second
 pub data IsAssignment (lexemes : List Lexeme) (limit : Option ℕ) : ℕ → ℕ → ℕ → Assignment → ℕ → Type 0 where
@@ -48,7 +49,7 @@ pub data IsAssignment (lexemes : List Lexeme) (limit : Option ℕ) : ℕ → ℕ
 -- TEXT | expr: an expression is nested one deeper than its `print`
 pub data IsItem (lexemes : List Lexeme) (limit : Option ℕ) : ℕ → ℕ → PrintItem → ℕ → Type 0 where
   text_item : {n i j : ℕ} → kind_at lexemes i ≡ Some TextToken → j ≡ i + 1
-      → IsItem lexemes limit n i (Text (record { text = text_bytes (bytes_at lexemes i); token = i })) j
+      → IsItem lexemes limit n i (Text (record { text = unquoted (bytes_at lexemes i); token = i })) j
   expr_item : {n i j : ℕ} {e : Expr} → kind_at lexemes i ≢ Some TextToken → Within limit (n + 1) → IsExpr lexemes limit (n + 1) i e j
       → IsItem lexemes limit n i (ExprItem e) j
 
@@ -58,7 +59,8 @@ pub data AreMoreItems (lexemes : List Lexeme) (limit : Option ℕ) : ℕ → ℕ
   more_items : {n i j : ℕ} {item : PrintItem} {items : List PrintItem} (k : ℕ) → SeesSign lexemes i Comma → IsItem lexemes limit n (i + 1) item k
       → AreMoreItems lexemes limit n k items j → AreMoreItems lexemes limit n i (item ∷ items) j
 
--- variable | assign ";": in the head of a `for`, where each expression is nested one deeper than the `for`, and the variable or assignment itself is not
+-- variable | assign ";": in the head of a `for`, where each expression is nested one deeper than the `for`, and the
+-- variable or assignment itself is not
 pub data IsForStart (lexemes : List Lexeme) (limit : Option ℕ) : ℕ → ℕ → ForStart → ℕ → Type 0 where
   variable_start : {n i j : ℕ} {variable : Variable} → IsVariable lexemes limit n (n + 1) i variable j → IsForStart lexemes limit n i (VariableStart variable) j
   assignment_start : {n i j : ℕ} {assignment : Assignment} (k : ℕ) → IsAssignment lexemes limit n (n + 1) i assignment k → SeesSign lexemes k Semicolon → j ≡ k + 1

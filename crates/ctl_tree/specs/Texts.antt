@@ -12,5 +12,5 @@ unescaped (b ∷ []) = b ∷ []
 unescaped (b ∷ c ∷ rest) = if b == 92 then escaped c ∷ unescaped rest else b ∷ unescaped (c ∷ rest)
 
 -- the bytes that a text with its quotes stands for
-abbrev pub text_bytes : List ℕ → List ℕ
-text_bytes bytes = unescaped (take (length bytes - 2) (drop 1 bytes))
+abbrev pub unquoted : List ℕ → List ℕ
+unquoted bytes = unescaped (take (length bytes - 2) (drop 1 bytes))

@@ -1,11 +1,12 @@
 -- Which lists of tokens stand for a text, and where a text has a fault. F is the number of fraction bits.
 -- These are relations on whole texts: nothing here reads one byte after the other.
-use Rattle.std.specs.Prelude.{◌≡◌, ℕ, ◌+◌, ◌-◌, ◌<◌, ◌≤◌, ◌&&◌, ◌||◌, ◌⊎◌, ◌==◌, Bool, true, false, List, [], ◌∷◌, length, take, drop, slice_index, count_by}
+use Rattle.std.specs.Prelude.{◌≡◌, ℕ, ◌+◌, ◌-◌, ◌<◌, ◌≤◌, ◌&&◌, ◌||◌, ◌⊎◌, ◌==◌, Bool, true, false, List, [], ◌∷◌, length, take, drop, slice_index}
 use Rattle.ctl_tree.specs.declared.token.Token.{Token}
 use Rattle.ctl_tree.specs.declared.token.TokenKind.{TokenKind}
 use Rattle.ctl_tree.specs.declared.fault.LexKind.{LexKind}
 use Rattle.ctl_tree.specs.declared.fault.LexKind.TheVariants.{NoToken, OpenComment, OpenText, Literal, NotAscii}
-use Rattle.ctl_tree.specs.Lexeme.{is_blank, begins_number, SpellsKind, IsLexeme}
+use Rattle.ctl_tree.specs.TokenBytes.{is_blank, begins_number, SpellsKind, IsTokenBytes}
+use Rattle.ctl_tree.specs.Lines.{line_at}
 
 -- Comments
 
@@ -47,28 +48,25 @@ pub data IsGap (text : List ℕ) : ℕ → ℕ → Type 0 where
 
 -- Tokens
 
--- the first n bytes are a lexeme, and no more bytes of these are one
+-- the first n bytes are those of a token, and no more bytes of these are
 pub record IsLongest (bytes : List ℕ) (n : ℕ) : Type 0 where
   pub within : n ≤ length bytes
-  pub lexeme : IsLexeme (take n bytes)
-  pub longest : (m : ℕ) → n < m → m ≤ length bytes → IsLexeme (take m bytes) → ⊥
+  pub written : IsTokenBytes (take n bytes)
+  pub longest : (m : ℕ) → n < m → m ≤ length bytes → IsTokenBytes (take m bytes) → ⊥
 
--- the first n bytes are a whole lexeme and spell a token of the kind, and no comment begins there
+-- the first n bytes are the longest that a token has there and spell one of the kind, and no comment begins there
 pub record IsToken (F : ℕ) (kind : TokenKind) (bytes : List ℕ) (n : ℕ) : Type 0 where
   pub whole : IsLongest bytes n
   pub spells : SpellsKind F kind (take n bytes)
   pub apart : begins_comment bytes ≡ false
-
--- the line of a byte: one plus the number of line feeds before it
-abbrev pub line_at : List ℕ → ℕ → ℕ
-line_at text at = count_by (λ b. b == 10) (take at text) + 1
 
 -- the token stands in the text where it says
 pub record StandsIn (F : ℕ) (text : List ℕ) (token : Token) : Type 0 where
   pub spelled : IsToken F token.kind (drop token.at text) token.len
   pub line : token.line ≡ line_at text token.at
 
--- from one place of the text up to another stand the tokens in their order, with blanks and whole comments before, between and after them
+-- from one place of the text up to another stand the tokens in their order, with blanks and whole comments before,
+-- between and after them
 abbrev pub CoversFrom : ℕ → List ℕ → ℕ → List Token → ℕ → Type 0
 CoversFrom F text from [] to = IsGap text from to
 CoversFrom F text from (token ∷ tokens) to = IsGap text from token.at × StandsIn F text token × CoversFrom F text (token.at + token.len) tokens to
@@ -80,10 +78,6 @@ Covers F text tokens p = CoversFrom F text 0 tokens p
 -- the tokens stand for the text: they cover it up to its end
 abbrev pub StandsFor : ℕ → List Token → List ℕ → Type 0
 StandsFor F tokens text = Covers F text tokens (length text)
-
--- a text has at most one list of tokens
-abbrev pub OneList : Type 0
-OneList = (F : ℕ) (text : List ℕ) (tokens others : List Token) → StandsFor F tokens text → StandsFor F others text → tokens ≡ others
 
 -- Faults
 

@@ -2,7 +2,7 @@
 
 use crate::{Expr, QualifiedName};
 use ctl_base::ByteText;
-use sqlite_items::Items;
+use sqlite_items::{Boxed, Items};
 
 /// What a shape is called. `unsigned` and `unsigned int` are one.
 #[derive(Drop)]
@@ -13,7 +13,7 @@ pub enum ShapeKind {
     Half,
     Float,
     /// A structure.
-    Named(QualifiedName),
+    Named(Boxed<QualifiedName>),
 }
 
 /// The shape of a value before its array sizes. Its own token is its last.

@@ -1,6 +1,6 @@
 //! Definitions and modules.
 
-use crate::{ArraySize, Block, Constant, Expr, Initialiser, ShapeName};
+use crate::{ArraySize, Block, Constant, Initialiser, ShapeName};
 use ctl_base::ByteText;
 use sqlite_items::Items;
 
@@ -23,25 +23,18 @@ pub enum Level {
 pub struct Parameter {
     pub direction: Option<Direction>,
     pub level: Option<Level>,
+    pub token: u32,
     pub shape: ShapeName,
     pub name: ByteText,
     pub sizes: Items<ArraySize>,
     pub value: Option<Initialiser>,
-    pub token: u32,
 }
 
-/// A shape with the sizes of its arrays.
+/// A shape with the sizes of its arrays, each of which is stated.
 #[derive(Drop)]
 pub struct SizedShape {
     pub shape: ShapeName,
-    pub sizes: Items<SizeExpr>,
-}
-
-/// The size of an array in square brackets. Its own token is its `[`.
-#[derive(Drop)]
-pub struct SizeExpr {
-    pub size: Expr,
-    pub token: u32,
+    pub sizes: Items<ArraySize>,
 }
 
 /// A function. Its own token is its name.
@@ -60,7 +53,8 @@ pub struct Function {
 pub struct Field {
     pub shape: ShapeName,
     pub name: ByteText,
-    pub sizes: Items<SizeExpr>,
+    /// Each is stated.
+    pub sizes: Items<ArraySize>,
     pub token: u32,
 }
 

@@ -1,18 +1,23 @@
 //! Expressions. Each form keeps its own token by the token's place in the list of its module.
 //! Round brackets make no form.
 
+ghost use Rattle.std.specs.Prelude.{◌≡◌};
+ghost use Rattle.ctl_tree.specs.OwnTokens.{own_token, step_token};
+
 use ctl_base::ByteText;
 use fix_num::Fix;
 use sqlite_items::{Boxed, Items};
 
-/// A name with the namespaces before it, as `a::b`. Its own token is its last name.
+/// A name with the namespaces before it, as `a::b`. Its own token is the name.
 #[derive(Drop)]
 pub struct QualifiedName {
-    /// Whether `::` stands before the first name.
+    /// Whether `::` stands in front.
     pub is_global: bool,
-    /// At least one.
-    pub names: Items<ByteText>,
     pub token: u32,
+    /// The names before the last, from the left.
+    pub spaces: Items<ByteText>,
+    /// The last name.
+    pub name: ByteText,
 }
 
 /// The value of a literal.
@@ -95,7 +100,7 @@ pub struct Literal {
 pub enum Expr {
     Literal(Literal),
     Name(QualifiedName),
-    Call(Call),
+    Call(Boxed<Call>),
     Path(Path),
     Unary(Unary),
     Chain(Chain),
@@ -165,6 +170,85 @@ pub struct Chain {
 #[derive(Drop)]
 pub struct Link {
     pub operator: Operator,
-    pub operand: Expr,
     pub token: u32,
+    pub operand: Expr,
+}
+
+impl Expr {
+    /// The own token. That of a path is its last step's.
+    pub fn token(&self) -> u32
+        ensures { result ≡ own_token self.now }
+    {
+        match self {
+            Expr::Literal(literal) => literal.token,
+            Expr::Name(name) => name.token,
+            Expr::Call(call) => call.get().token,
+            Expr::Path(path) => match path.steps.as_slice().last() {
+                Some(step) => step.token(),
+                None => 0,
+            },
+            Expr::Unary(unary) => unary.token,
+            Expr::Chain(chain) => chain.token,
+        }
+    }
+}
+
+impl Step {
+    /// The own token.
+    pub fn token(&self) -> u32
+        ensures { result ≡ step_token self.now }
+    {
+        match self {
+            Step::Index(index) => index.token,
+            Step::Field(field) => field.token,
+        }
+    }
+}
+
+#[cfg(test)]
+mod tests {
+    use super::*;
+    use ctl_base::Memory;
+    use std::alloc::Global;
+
+    fn name(alloc: Global, token: u32) -> Result<Expr, Memory> {
+        Ok(Expr::Name(QualifiedName {
+            is_global: false,
+            token,
+            spaces: Items::new(alloc),
+            name: ByteText::new(alloc, b"a")?,
+        }))
+    }
+
+    fn whole(value: u32, token: u32) -> Expr {
+        Expr::Literal(Literal {
+            value: LiteralValue::Whole(value),
+            token,
+        })
+    }
+
+    /// `a[0].b`
+    fn path(alloc: Global) -> Result<Expr, Memory> {
+        let mut steps = Items::new(alloc);
+        steps.push(Step::Index(Index {
+            index: whole(0, 2),
+            token: 1,
+        }))?;
+        steps.push(Step::Field(FieldAccess {
+            name: ByteText::new(alloc, b"b")?,
+            token: 5,
+        }))?;
+        Ok(Expr::Path(Path {
+            root: Boxed::new(alloc, name(alloc, 0)?)?,
+            steps,
+        }))
+    }
+
+    #[test]
+    fn a_path_is_told_by_its_last_step(rt: HostRuntime) -> Result<(), Memory> {
+        assert_eq!(rt; name(rt.alloc(), 7)?.token(), 7);
+        assert_eq!(rt; whole(3, 4).token(), 4);
+        assert_eq!(rt; path(rt.alloc())?.token(), 5);
+        Ok(())
+    }
 }

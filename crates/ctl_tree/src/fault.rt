@@ -18,8 +18,11 @@ pub enum LexKind {
 /// Why the tokens of a text spell no module.
 #[derive(Clone, Copy, Debug, PartialEq, Eq)]
 pub enum SyntaxKind {
-    /// No module of any nesting begins with the tokens up to and with this one.
+    /// The tokens before this one begin a module that is not nested too deeply, and with this one
+    /// they begin none of any nesting. At the number of tokens: the whole list begins a module and
+    /// is none.
     NotHere,
-    /// Each module that begins with the tokens up to and with this one is nested too deeply.
+    /// The tokens before this one begin a module that is not nested too deeply, and each that they
+    /// begin with this one is nested too deeply. There is one.
     Depth,
 }

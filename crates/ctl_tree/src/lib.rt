@@ -6,7 +6,7 @@ pub use declaration::{
     ArraySize, BraceList, Constant, Initialiser, ShapeKind, ShapeName, Variable,
 };
 pub use definition::{
-    Definition, Direction, Field, Function, Import, Level, Module, Namespace, Parameter, SizeExpr,
+    Definition, Direction, Field, Function, Import, Level, Module, Namespace, Parameter,
     SizedShape, Struct,
 };
 pub use expression::{
@@ -15,7 +15,7 @@ pub use expression::{
 };
 pub use fault::{LexKind, SyntaxKind};
 pub use keyword::Keyword;
-pub use laws::{one_module, tokens_stand};
+pub use laws::{faults_spell_none, one_module, one_syntax_fault, tokens_are_spelt, tokens_stand};
 pub use list::TokenList;
 pub use sign::Sign;
 pub use statement::{

@@ -31,6 +31,21 @@ impl TokenList {
         }
     }
 
+    /// The tokens of a vector, which is taken over and not copied.
+    pub fn from_vec(tokens: Vec<Token>) -> TokenList
+        ensures { result ≡ tokens.items }
+    {
+        TokenList { tokens }
+    }
+
+    /// The vector of the tokens, which is given back and not copied.
+    pub fn into_vec(self) -> Vec<Token>
+        ensures { result.items ≡ self }
+    {
+        let TokenList { tokens } = self;
+        tokens
+    }
+
     /// Puts a token last. A list that has no room for it stays as it was.
     pub fn push(&mut self, token: Token) -> Result<(), Memory>
         ensures last { IfOk result (λ _. self.new ≡ self.old ++ (token ∷ [])) }
@@ -79,6 +94,8 @@ mod tests {
         for (token, at) in tokens.as_slice().iter().zip(0..3u32) {
             assert_eq!(rt; token.at, at);
         }
+        let again = TokenList::from_vec(tokens.into_vec());
+        assert_eq!(rt; again.as_slice().len(), 3);
         Ok(())
     }
 }

@@ -1,4 +1,4 @@
-//! Statements.
+//! Statements. The large ones are held in boxes, so that a list of them is small.
 
 use crate::{Call, Constant, Expr, QualifiedName, Step, Variable};
 use ctl_base::ByteText;
@@ -66,14 +66,14 @@ pub enum ForStart {
 #[derive(Drop)]
 pub enum Statement {
     Block(Block),
-    Constant(Constant),
-    Variable(Variable),
-    Assignment(Assignment),
-    Call(Call),
+    Constant(Boxed<Constant>),
+    Variable(Boxed<Variable>),
+    Assignment(Boxed<Assignment>),
+    Call(Boxed<Call>),
     If(If),
-    While(While),
-    For(For),
-    Return(Return),
+    While(Boxed<While>),
+    For(Boxed<For>),
+    Return(Boxed<Return>),
     Print(Print),
     Empty(Empty),
 }
@@ -101,7 +101,7 @@ pub struct If {
 #[derive(Drop)]
 pub struct Arm {
     pub test: Expr,
-    pub body: Statement,
+    pub body: Boxed<Statement>,
 }
 
 /// A `while`. Its own token is its keyword.
@@ -109,7 +109,7 @@ pub struct Arm {
 #[derive(Drop)]
 pub struct While {
     pub test: Expr,
-    pub body: Boxed<Statement>,
+    pub body: Statement,
     pub token: u32,
 }
 
@@ -120,6 +120,6 @@ pub struct For {
     pub start: ForStart,
     pub test: Expr,
     pub next: Assignment,
-    pub body: Boxed<Statement>,
+    pub body: Statement,
     pub token: u32,
 }

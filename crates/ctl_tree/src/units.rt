@@ -1,17 +1,18 @@
 //! Modules with what they were read from, in load order.
 
-ghost use Rattle.std.specs.Prelude.{◌≡◌, ◌<◌, ◌≤◌, ◌^◌, List, [], ◌∷◌, ◌++◌, length, slice_get, IfOk, IfErr};
+ghost use Rattle.std.specs.Prelude.{◌≡◌, ◌<◌, ◌≤◌, List, [], ◌∷◌, ◌++◌, length, slice_get, IfOk, IfErr};
 ghost use Rattle.std.specs.Option.{option_copied};
 ghost use Rattle.ctl_tree.specs.OwnTokens.{OwnTokensBelow};
-ghost use Rattle.ctl_tree.specs.Units.{NodeExists, line_of};
+ghost use Rattle.ctl_tree.specs.Units.{line_of_node};
+ghost use Rattle.ctl_base.specs.declared.limits.TheConstants.{MODULES, TEXT_BYTES};
 
 use crate::{Module, Token, TokenList};
 use ctl_base::{Memory, Node, TextArg};
 use std::alloc::Global;
 use std::marker::Model;
 
-/// A module with the name of its file and the tokens that spell it. It has at most 2^24 tokens,
-/// and the own token of each form of the module is one of them.
+/// A module with the name of its file and the tokens that spell it. It has at most as many tokens
+/// as a text may have bytes, and the own token of each form of the module is one of them.
 #[derive(Drop)]
 pub struct Unit {
     file: TextArg,
@@ -20,9 +21,10 @@ pub struct Unit {
 }
 
 impl Model for Unit {
-    ghost use Rattle.std.specs.Prelude.{◌≤◌, ◌^◌, length};
+    ghost use Rattle.std.specs.Prelude.{◌≤◌, length};
     ghost use Rattle.ctl_tree.specs.OwnTokens.{OwnTokensBelow};
     ghost use Rattle.ctl_tree.specs.Units.{SourceUnit, unit_code};
+    ghost use Rattle.ctl_base.specs.declared.limits.TheConstants.{TEXT_BYTES};
 
     ghost Value = { SourceUnit };
 
@@ -30,12 +32,12 @@ impl Model for Unit {
 
     ghost view = { λ u. record { file = u.file; tokens = u.tokens; «module» = u.«module» } };
 
-    ghost invariant = { λ u. (length u.tokens ≤ 2 ^ 24) × OwnTokensBelow (length u.tokens) u.«module» };
+    ghost invariant = { λ u. (length u.tokens ≤ TEXT_BYTES) × OwnTokensBelow (length u.tokens) u.«module» };
 }
 
 impl Unit {
     pub fn new(file: TextArg, tokens: TokenList, module: Module) -> Unit
-        requires few { length tokens ≤ 2 ^ 24 }
+        requires few { length tokens ≤ TEXT_BYTES }
         requires own { OwnTokensBelow (length tokens) «module» }
         ensures { result ≡ record { file = file; tokens = tokens; «module» = «module» } }
     {
@@ -54,7 +56,7 @@ impl Unit {
 
     pub fn tokens(&self) -> &[Token]
         ensures tokens { result.now ≡ self.now.tokens }
-        ensures few { length self.now.tokens ≤ 2 ^ 24 }
+        ensures few { length self.now.tokens ≤ TEXT_BYTES }
     {
         self.tokens.as_slice()
     }
@@ -67,7 +69,7 @@ impl Unit {
     }
 }
 
-/// Units in load order, the root last. There are at most 64, the most modules of a stage.
+/// Units in load order, the root last. There are at most as many as a stage may have modules.
 #[derive(Drop)]
 pub struct Units {
     units: Vec<Unit>,
@@ -77,6 +79,7 @@ impl Model for Units {
     ghost use Rattle.std.specs.Prelude.{List, ◌≤◌, length};
     ghost use Rattle.std.specs.Coded.{coded_list};
     ghost use Rattle.ctl_tree.specs.Units.{SourceUnit, unit_code};
+    ghost use Rattle.ctl_base.specs.declared.limits.TheConstants.{MODULES};
 
     ghost Value = { List SourceUnit };
 
@@ -84,7 +87,7 @@ impl Model for Units {
 
     ghost view = { λ u. u.units.items };
 
-    ghost invariant = { λ u. length u.units.items ≤ 64 };
+    ghost invariant = { λ u. length u.units.items ≤ MODULES };
 }
 
 impl Units {
@@ -98,7 +101,7 @@ impl Units {
 
     /// Puts a unit last. Units that have no room for it stay as they were.
     pub fn push(&mut self, unit: Unit) -> Result<(), Memory>
-        requires { length self.old < 64 }
+        requires { length self.old < MODULES }
         ensures last { IfOk result (λ _. self.new ≡ self.old ++ (unit ∷ [])) }
         ensures kept { IfErr result (λ _. self.new ≡ self.old) }
     {
@@ -108,7 +111,7 @@ impl Units {
 
     pub fn len(&self) -> u32
         ensures value { result ≡ length self.now }
-        ensures few { result ≤ 64 }
+        ensures few { result ≤ MODULES }
     {
         self.units.len() as u32
     }
@@ -120,13 +123,23 @@ impl Units {
         self.units.get(place as usize)
     }
 
-    /// The line of a node's token.
-    pub fn line_of(&self, node: Node) -> u32
-        requires { NodeExists self.now node }
-        ensures { result ≡ line_of self.now node }
+    pub fn as_slice(&self) -> &[Unit]
+        ensures { result.now ≡ self.now }
     {
-        let unit = &self.units[node.module as usize];
-        unit.tokens()[node.token as usize].line
+        self.units.as_slice()
+    }
+
+    /// The line of a node's token, and 0 where there is no such token.
+    pub fn line_of(&self, node: Node) -> u32
+        ensures { result ≡ line_of_node self.now node }
+    {
+        match self.get(node.module) {
+            Some(unit) => match unit.tokens().get(node.token as usize) {
+                Some(token) => token.line,
+                None => 0,
+            },
+            None => 0,
+        }
     }
 }
 
@@ -184,6 +197,12 @@ mod tests {
             token: 1,
         };
         assert_eq!(rt; units.line_of(node), 7);
+        let behind = Node {
+            module: 1,
+            token: 2,
+        };
+        assert_eq!(rt; units.line_of(behind), 0);
+        assert_eq!(rt; units.as_slice().len(), 2);
         Ok(())
     }
 }

@@ -1,10 +1,10 @@
 //! The tests of the tables.
 
 use super::tables::{
-    EIGHTH_ACCEPTED, FIFTH_ACCEPTED, FIRST_ACCEPTED, FOURTH_ACCEPTED, REFUSED, SECOND_ACCEPTED,
-    SEVENTH_ACCEPTED, SIXTH_ACCEPTED, THIRD_ACCEPTED,
+    ALONE, HALVES, POINTS, REFUSED, SIGNS, SIGNS_IN_A_ROW, TEXTS_AND_COMMENTS, WHOLES, WORDS,
 };
-use crate::{LexFault, lex, one_list};
+use crate::{LexFault, faults_have_no_tokens, lex, one_fault, one_list, tokens_or_fault};
+use ctl_base::limits::TEXT_BYTES;
 use ctl_tree::{Keyword, LexKind, Sign, Token, TokenKind, TokenList};
 use std::alloc::Global;
 
@@ -50,7 +50,7 @@ fn are_rows(tokens: &[Token], rows: &[Row]) -> bool {
 
 // The tokens of a text of the tables, which are all short.
 fn tokens_of(alloc: Global, text: &[u8]) -> Result<TokenList, LexFault> {
-    if text.len() > 1 << 24 {
+    if text.len() as u64 > TEXT_BYTES {
         return Err(LexFault::Memory);
     }
     lex(alloc, text)
@@ -89,44 +89,28 @@ fn first_wrong_fault(alloc: Global, table: &[(&[u8], u32, u32, LexKind)]) -> Opt
     })
 }
 
-#[test]
-fn first_texts_have_their_tokens(rt: HostRuntime) {
-    assert_eq!(rt; first_wrong_tokens(rt.alloc(), &FIRST_ACCEPTED), None);
+fn holds(alloc: Global, table: &(&[u8], &[Row])) -> bool {
+    has_tokens(alloc, table.0, table.1)
 }
 
 #[test]
-fn second_texts_have_their_tokens(rt: HostRuntime) {
-    assert_eq!(rt; first_wrong_tokens(rt.alloc(), &SECOND_ACCEPTED), None);
+fn words_and_signs_have_their_tokens(rt: HostRuntime) {
+    assert!(rt; holds(rt.alloc(), &WORDS));
+    assert!(rt; holds(rt.alloc(), &SIGNS));
+    assert!(rt; holds(rt.alloc(), &SIGNS_IN_A_ROW));
 }
 
 #[test]
-fn third_texts_have_their_tokens(rt: HostRuntime) {
-    assert_eq!(rt; first_wrong_tokens(rt.alloc(), &THIRD_ACCEPTED), None);
+fn numbers_have_their_tokens(rt: HostRuntime) {
+    assert!(rt; holds(rt.alloc(), &WHOLES));
+    assert!(rt; holds(rt.alloc(), &POINTS));
+    assert!(rt; holds(rt.alloc(), &HALVES));
 }
 
 #[test]
-fn fourth_texts_have_their_tokens(rt: HostRuntime) {
-    assert_eq!(rt; first_wrong_tokens(rt.alloc(), &FOURTH_ACCEPTED), None);
-}
-
-#[test]
-fn fifth_texts_have_their_tokens(rt: HostRuntime) {
-    assert_eq!(rt; first_wrong_tokens(rt.alloc(), &FIFTH_ACCEPTED), None);
-}
-
-#[test]
-fn sixth_texts_have_their_tokens(rt: HostRuntime) {
-    assert_eq!(rt; first_wrong_tokens(rt.alloc(), &SIXTH_ACCEPTED), None);
-}
-
-#[test]
-fn seventh_texts_have_their_tokens(rt: HostRuntime) {
-    assert_eq!(rt; first_wrong_tokens(rt.alloc(), &SEVENTH_ACCEPTED), None);
-}
-
-#[test]
-fn eighth_texts_have_their_tokens(rt: HostRuntime) {
-    assert_eq!(rt; first_wrong_tokens(rt.alloc(), &EIGHTH_ACCEPTED), None);
+fn texts_and_comments_have_their_tokens(rt: HostRuntime) {
+    assert!(rt; holds(rt.alloc(), &TEXTS_AND_COMMENTS));
+    assert_eq!(rt; first_wrong_tokens(rt.alloc(), &ALONE), None);
 }
 
 #[test]
@@ -135,6 +119,9 @@ fn texts_have_their_faults(rt: HostRuntime) {
 }
 
 #[test]
-fn the_law_is_there() {
+fn the_laws_are_there() {
     one_list();
+    one_fault();
+    faults_have_no_tokens();
+    tokens_or_fault();
 }

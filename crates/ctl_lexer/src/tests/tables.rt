@@ -1,414 +1,270 @@
-//! Texts with what is wanted of them, as `python3 tools/lexer_cases.py` prints them.
+//! Printed by tools/ctl_lexer_tables.py.
 
 use super::cases::{Row, Want};
 use ctl_tree::{Keyword, LexKind, Sign};
 
-// Texts with their tokens, part 1.
-pub(super) static FIRST_ACCEPTED: [(&[u8], &[Row]); 20] = [
-    (b"bool", &[(Want::Word(Keyword::Bool), 0, 4, 1)]),
-    (b"const", &[(Want::Word(Keyword::Const), 0, 5, 1)]),
-    (
-        b"ctlversion",
-        &[(Want::Word(Keyword::Ctlversion), 0, 10, 1)],
-    ),
-    (b"else", &[(Want::Word(Keyword::Else), 0, 4, 1)]),
-    (b"false", &[(Want::Word(Keyword::False), 0, 5, 1)]),
-    (b"float", &[(Want::Word(Keyword::Float), 0, 5, 1)]),
-    (b"for", &[(Want::Word(Keyword::For), 0, 3, 1)]),
-    (b"half", &[(Want::Word(Keyword::Half), 0, 4, 1)]),
-    (b"if", &[(Want::Word(Keyword::If), 0, 2, 1)]),
-    (b"import", &[(Want::Word(Keyword::Import), 0, 6, 1)]),
-    (b"input", &[(Want::Word(Keyword::Input), 0, 5, 1)]),
-    (b"int", &[(Want::Word(Keyword::Int), 0, 3, 1)]),
-    (b"namespace", &[(Want::Word(Keyword::Namespace), 0, 9, 1)]),
-    (b"output", &[(Want::Word(Keyword::Output), 0, 6, 1)]),
-    (b"print", &[(Want::Word(Keyword::Print), 0, 5, 1)]),
-    (b"return", &[(Want::Word(Keyword::Return), 0, 6, 1)]),
-    (b"string", &[(Want::Word(Keyword::String), 0, 6, 1)]),
-    (b"struct", &[(Want::Word(Keyword::Struct), 0, 6, 1)]),
-    (b"true", &[(Want::Word(Keyword::True), 0, 4, 1)]),
-    (b"uniform", &[(Want::Word(Keyword::Uniform), 0, 7, 1)]),
-];
+pub(super) static WORDS: (&[u8], &[Row]) = (
+    b"bool\nconst\nctlversion\nelse\nfalse\nfloat\nfor\nhalf\nif\nimport\ninput\nint\nnamespace\noutput\nprint\nreturn\nstring\nstruct\ntrue\nuniform\nunsigned\nvarying\nvoid\nwhile\niff\nIf\n_\n_1\nvoid_\nifelse if else\nprintx print\nA9_z\n\na\n\nb\n \t\x0b\x0c\r\n",
+    &[
+        (Want::Word(Keyword::Bool), 0, 4, 1),
+        (Want::Word(Keyword::Const), 5, 5, 2),
+        (Want::Word(Keyword::Ctlversion), 11, 10, 3),
+        (Want::Word(Keyword::Else), 22, 4, 4),
+        (Want::Word(Keyword::False), 27, 5, 5),
+        (Want::Word(Keyword::Float), 33, 5, 6),
+        (Want::Word(Keyword::For), 39, 3, 7),
+        (Want::Word(Keyword::Half), 43, 4, 8),
+        (Want::Word(Keyword::If), 48, 2, 9),
+        (Want::Word(Keyword::Import), 51, 6, 10),
+        (Want::Word(Keyword::Input), 58, 5, 11),
+        (Want::Word(Keyword::Int), 64, 3, 12),
+        (Want::Word(Keyword::Namespace), 68, 9, 13),
+        (Want::Word(Keyword::Output), 78, 6, 14),
+        (Want::Word(Keyword::Print), 85, 5, 15),
+        (Want::Word(Keyword::Return), 91, 6, 16),
+        (Want::Word(Keyword::String), 98, 6, 17),
+        (Want::Word(Keyword::Struct), 105, 6, 18),
+        (Want::Word(Keyword::True), 112, 4, 19),
+        (Want::Word(Keyword::Uniform), 117, 7, 20),
+        (Want::Word(Keyword::Unsigned), 125, 8, 21),
+        (Want::Word(Keyword::Varying), 134, 7, 22),
+        (Want::Word(Keyword::Void), 142, 4, 23),
+        (Want::Word(Keyword::While), 147, 5, 24),
+        (Want::Name, 153, 3, 25),
+        (Want::Name, 157, 2, 26),
+        (Want::Name, 160, 1, 27),
+        (Want::Name, 162, 2, 28),
+        (Want::Name, 165, 5, 29),
+        (Want::Name, 171, 6, 30),
+        (Want::Word(Keyword::If), 178, 2, 30),
+        (Want::Word(Keyword::Else), 181, 4, 30),
+        (Want::Name, 186, 6, 31),
+        (Want::Word(Keyword::Print), 193, 5, 31),
+        (Want::Name, 199, 4, 32),
+        (Want::Name, 205, 1, 34),
+        (Want::Name, 208, 1, 36),
+    ],
+);
 
-// Texts with their tokens, part 2.
-pub(super) static SECOND_ACCEPTED: [(&[u8], &[Row]); 20] = [
-    (b"unsigned", &[(Want::Word(Keyword::Unsigned), 0, 8, 1)]),
-    (b"varying", &[(Want::Word(Keyword::Varying), 0, 7, 1)]),
-    (b"void", &[(Want::Word(Keyword::Void), 0, 4, 1)]),
-    (b"while", &[(Want::Word(Keyword::While), 0, 5, 1)]),
-    (b"+", &[(Want::Sign(Sign::Plus), 0, 1, 1)]),
-    (b"-", &[(Want::Sign(Sign::Minus), 0, 1, 1)]),
-    (b"*", &[(Want::Sign(Sign::Star), 0, 1, 1)]),
-    (b"/", &[(Want::Sign(Sign::Slash), 0, 1, 1)]),
-    (b"%", &[(Want::Sign(Sign::Percent), 0, 1, 1)]),
-    (b"&", &[(Want::Sign(Sign::Ampersand), 0, 1, 1)]),
-    (b"|", &[(Want::Sign(Sign::Bar), 0, 1, 1)]),
-    (b"^", &[(Want::Sign(Sign::Caret), 0, 1, 1)]),
-    (b"~", &[(Want::Sign(Sign::Tilde), 0, 1, 1)]),
-    (b"<<", &[(Want::Sign(Sign::ShiftLeft), 0, 2, 1)]),
-    (b">>", &[(Want::Sign(Sign::ShiftRight), 0, 2, 1)]),
-    (b"&&", &[(Want::Sign(Sign::AndAnd), 0, 2, 1)]),
-    (b"||", &[(Want::Sign(Sign::OrOr), 0, 2, 1)]),
-    (b"!", &[(Want::Sign(Sign::Exclamation), 0, 1, 1)]),
-    (b"==", &[(Want::Sign(Sign::EqualTo), 0, 2, 1)]),
-    (b"!=", &[(Want::Sign(Sign::NotEqualTo), 0, 2, 1)]),
-];
+pub(super) static SIGNS: (&[u8], &[Row]) = (
+    b"+\n-\n*\n/\n%\n&\n|\n^\n~\n<<\n>>\n&&\n||\n!\n==\n!=\n<\n<=\n>\n>=\n=\n(\n)\n[\n]\n{\n}\n,\n;\n.\n::\na<=b\n! =\n< <\n",
+    &[
+        (Want::Sign(Sign::Plus), 0, 1, 1),
+        (Want::Sign(Sign::Minus), 2, 1, 2),
+        (Want::Sign(Sign::Star), 4, 1, 3),
+        (Want::Sign(Sign::Slash), 6, 1, 4),
+        (Want::Sign(Sign::Percent), 8, 1, 5),
+        (Want::Sign(Sign::Ampersand), 10, 1, 6),
+        (Want::Sign(Sign::Bar), 12, 1, 7),
+        (Want::Sign(Sign::Caret), 14, 1, 8),
+        (Want::Sign(Sign::Tilde), 16, 1, 9),
+        (Want::Sign(Sign::ShiftLeft), 18, 2, 10),
+        (Want::Sign(Sign::ShiftRight), 21, 2, 11),
+        (Want::Sign(Sign::AndAnd), 24, 2, 12),
+        (Want::Sign(Sign::OrOr), 27, 2, 13),
+        (Want::Sign(Sign::Exclamation), 30, 1, 14),
+        (Want::Sign(Sign::EqualTo), 32, 2, 15),
+        (Want::Sign(Sign::NotEqualTo), 35, 2, 16),
+        (Want::Sign(Sign::LessThan), 38, 1, 17),
+        (Want::Sign(Sign::AtMost), 40, 2, 18),
+        (Want::Sign(Sign::GreaterThan), 43, 1, 19),
+        (Want::Sign(Sign::AtLeast), 45, 2, 20),
+        (Want::Sign(Sign::Assign), 48, 1, 21),
+        (Want::Sign(Sign::OpenRound), 50, 1, 22),
+        (Want::Sign(Sign::CloseRound), 52, 1, 23),
+        (Want::Sign(Sign::OpenSquare), 54, 1, 24),
+        (Want::Sign(Sign::CloseSquare), 56, 1, 25),
+        (Want::Sign(Sign::OpenCurly), 58, 1, 26),
+        (Want::Sign(Sign::CloseCurly), 60, 1, 27),
+        (Want::Sign(Sign::Comma), 62, 1, 28),
+        (Want::Sign(Sign::Semicolon), 64, 1, 29),
+        (Want::Sign(Sign::Dot), 66, 1, 30),
+        (Want::Sign(Sign::ColonColon), 68, 2, 31),
+        (Want::Name, 71, 1, 32),
+        (Want::Sign(Sign::AtMost), 72, 2, 32),
+        (Want::Name, 74, 1, 32),
+        (Want::Sign(Sign::Exclamation), 76, 1, 33),
+        (Want::Sign(Sign::Assign), 78, 1, 33),
+        (Want::Sign(Sign::LessThan), 80, 1, 34),
+        (Want::Sign(Sign::LessThan), 82, 1, 34),
+    ],
+);
 
-// Texts with their tokens, part 3.
-pub(super) static THIRD_ACCEPTED: [(&[u8], &[Row]); 20] = [
-    (b"<", &[(Want::Sign(Sign::LessThan), 0, 1, 1)]),
-    (b"<=", &[(Want::Sign(Sign::AtMost), 0, 2, 1)]),
-    (b">", &[(Want::Sign(Sign::GreaterThan), 0, 1, 1)]),
-    (b">=", &[(Want::Sign(Sign::AtLeast), 0, 2, 1)]),
-    (b"=", &[(Want::Sign(Sign::Assign), 0, 1, 1)]),
-    (b"(", &[(Want::Sign(Sign::OpenRound), 0, 1, 1)]),
-    (b")", &[(Want::Sign(Sign::CloseRound), 0, 1, 1)]),
-    (b"[", &[(Want::Sign(Sign::OpenSquare), 0, 1, 1)]),
-    (b"]", &[(Want::Sign(Sign::CloseSquare), 0, 1, 1)]),
-    (b"{", &[(Want::Sign(Sign::OpenCurly), 0, 1, 1)]),
-    (b"}", &[(Want::Sign(Sign::CloseCurly), 0, 1, 1)]),
-    (b",", &[(Want::Sign(Sign::Comma), 0, 1, 1)]),
-    (b";", &[(Want::Sign(Sign::Semicolon), 0, 1, 1)]),
-    (b".", &[(Want::Sign(Sign::Dot), 0, 1, 1)]),
-    (b"::", &[(Want::Sign(Sign::ColonColon), 0, 2, 1)]),
+pub(super) static SIGNS_IN_A_ROW: (&[u8], &[Row]) = (
+    b"<<=\n>>=\n===\n!==\n<=>\n&&&\n|||\n<<<\n>>>\n::::\n..\na.b\na::b\n+-\n--\n*/\n%/ /\n~!^\n",
+    &[
+        (Want::Sign(Sign::ShiftLeft), 0, 2, 1),
+        (Want::Sign(Sign::Assign), 2, 1, 1),
+        (Want::Sign(Sign::ShiftRight), 4, 2, 2),
+        (Want::Sign(Sign::Assign), 6, 1, 2),
+        (Want::Sign(Sign::EqualTo), 8, 2, 3),
+        (Want::Sign(Sign::Assign), 10, 1, 3),
+        (Want::Sign(Sign::NotEqualTo), 12, 2, 4),
+        (Want::Sign(Sign::Assign), 14, 1, 4),
+        (Want::Sign(Sign::AtMost), 16, 2, 5),
+        (Want::Sign(Sign::GreaterThan), 18, 1, 5),
+        (Want::Sign(Sign::AndAnd), 20, 2, 6),
+        (Want::Sign(Sign::Ampersand), 22, 1, 6),
+        (Want::Sign(Sign::OrOr), 24, 2, 7),
+        (Want::Sign(Sign::Bar), 26, 1, 7),
+        (Want::Sign(Sign::ShiftLeft), 28, 2, 8),
+        (Want::Sign(Sign::LessThan), 30, 1, 8),
+        (Want::Sign(Sign::ShiftRight), 32, 2, 9),
+        (Want::Sign(Sign::GreaterThan), 34, 1, 9),
+        (Want::Sign(Sign::ColonColon), 36, 2, 10),
+        (Want::Sign(Sign::ColonColon), 38, 2, 10),
+        (Want::Sign(Sign::Dot), 41, 1, 11),
+        (Want::Sign(Sign::Dot), 42, 1, 11),
+        (Want::Name, 44, 1, 12),
+        (Want::Sign(Sign::Dot), 45, 1, 12),
+        (Want::Name, 46, 1, 12),
+        (Want::Name, 48, 1, 13),
+        (Want::Sign(Sign::ColonColon), 49, 2, 13),
+        (Want::Name, 51, 1, 13),
+        (Want::Sign(Sign::Plus), 53, 1, 14),
+        (Want::Sign(Sign::Minus), 54, 1, 14),
+        (Want::Sign(Sign::Minus), 56, 1, 15),
+        (Want::Sign(Sign::Minus), 57, 1, 15),
+        (Want::Sign(Sign::Star), 59, 1, 16),
+        (Want::Sign(Sign::Slash), 60, 1, 16),
+        (Want::Sign(Sign::Percent), 62, 1, 17),
+        (Want::Sign(Sign::Slash), 63, 1, 17),
+        (Want::Sign(Sign::Slash), 65, 1, 17),
+        (Want::Sign(Sign::Tilde), 67, 1, 18),
+        (Want::Sign(Sign::Exclamation), 68, 1, 18),
+        (Want::Sign(Sign::Caret), 69, 1, 18),
+    ],
+);
+
+pub(super) static WHOLES: (&[u8], &[Row]) = (
+    b"0\n007\n2147483647\n2147483648\n4294967295\n000000000000000000000000000000004294967295\n0x0\n0xFFFFFFFF\n0Xdeadbeef\n0x1e+5\n0xE-1\n0x1f\n0x00000001\n",
+    &[
+        (Want::Whole(0), 0, 1, 1),
+        (Want::Whole(7), 2, 3, 2),
+        (Want::Whole(2147483647), 6, 10, 3),
+        (Want::Whole(2147483648), 17, 10, 4),
+        (Want::Whole(4294967295), 28, 10, 5),
+        (Want::Whole(4294967295), 39, 42, 6),
+        (Want::Whole(0), 82, 3, 7),
+        (Want::Whole(4294967295), 86, 10, 8),
+        (Want::Whole(3735928559), 97, 10, 9),
+        (Want::Whole(30), 108, 4, 10),
+        (Want::Sign(Sign::Plus), 112, 1, 10),
+        (Want::Whole(5), 113, 1, 10),
+        (Want::Whole(14), 115, 3, 11),
+        (Want::Sign(Sign::Minus), 118, 1, 11),
+        (Want::Whole(1), 119, 1, 11),
+        (Want::Whole(31), 121, 4, 12),
+        (Want::Whole(1), 126, 10, 13),
+    ],
+);
+
+pub(super) static POINTS: (&[u8], &[Row]) = (
+    b".5\n1.\n1.f\n1.5F\n1e5\n1e+5\n1E-5\n1e5f\n2.5e0001\n1e40\n1e-40\n0.1\n1.234567890123456789012345\n1234567890123456789012345.\n0000001234567890123456789012345.\n1.0+2.0\n-1.5\n1 .5\na.5\n",
+    &[
+        (Want::Point(2147483648), 0, 2, 1),
+        (Want::Point(4294967296), 3, 2, 2),
+        (Want::Point(4294967296), 6, 3, 3),
+        (Want::Point(6442450944), 10, 4, 4),
+        (Want::Point(429496729600000), 15, 3, 5),
+        (Want::Point(429496729600000), 19, 4, 6),
+        (Want::Point(42950), 24, 4, 7),
+        (Want::Point(429496729600000), 29, 4, 8),
+        (Want::Point(107374182400), 34, 8, 9),
+        (Want::Point(9223372036854775807), 43, 4, 10),
+        (Want::Point(0), 48, 5, 11),
+        (Want::Point(429496730), 54, 3, 12),
+        (Want::Point(5302428713), 58, 26, 13),
+        (Want::Point(9223372036854775807), 85, 26, 14),
+        (Want::Point(9223372036854775807), 112, 32, 15),
+        (Want::Point(4294967296), 145, 3, 16),
+        (Want::Sign(Sign::Plus), 148, 1, 16),
+        (Want::Point(8589934592), 149, 3, 16),
+        (Want::Sign(Sign::Minus), 153, 1, 17),
+        (Want::Point(6442450944), 154, 3, 17),
+        (Want::Whole(1), 158, 1, 18),
+        (Want::Point(2147483648), 160, 2, 18),
+        (Want::Name, 163, 1, 19),
+        (Want::Point(2147483648), 164, 2, 19),
+    ],
+);
+
+pub(super) static HALVES: (&[u8], &[Row]) = (
+    b"1h\n0.1h\n1.H\n1e1h\n65520h\n1e-9h\n1234567890123456789012345h\n",
+    &[
+        (Want::HalfPoint(4294967296), 0, 2, 1),
+        (Want::HalfPoint(429391872), 3, 4, 2),
+        (Want::HalfPoint(4294967296), 8, 3, 3),
+        (Want::HalfPoint(42949672960), 12, 4, 4),
+        (Want::HalfPoint(281337537757184), 17, 6, 5),
+        (Want::HalfPoint(0), 24, 5, 6),
+        (Want::HalfPoint(281337537757184), 30, 26, 7),
+    ],
+);
+
+pub(super) static TEXTS_AND_COMMENTS: (&[u8], &[Row]) = (
+    b"\"\"\n\"a b\"\n\"\\n\\t\\\"\\\\\"\n\"\\q\"x\n\"a\"\"b\"\n\"/*\"\n\"//\"\n\"\\\\\"\n\"\\\\\\\"\"\n\"\x80\xff\"\n\"\\\xc3\"\n\"\r\0\"\n// a\n//\n/**/\n/* a */\n/***/\n/*/*/\n/* // */a\n// /*\na\n/*\n\n*/a\na//b\nc\na/b\na/ *b\n//\xc3\n\n/*\xff*/;\na/**/b\n1//2\n3\n/*\"*/a\n*//x\n/* a\n*/ \"b\" // c\nd\nvoid main()\n{\n  x = 1; // one\n}\n\n",
+    &[
+        (Want::Text, 0, 2, 1),
+        (Want::Text, 3, 5, 2),
+        (Want::Text, 9, 10, 3),
+        (Want::Text, 20, 4, 4),
+        (Want::Name, 24, 1, 4),
+        (Want::Text, 26, 3, 5),
+        (Want::Text, 29, 3, 5),
+        (Want::Text, 33, 4, 6),
+        (Want::Text, 38, 4, 7),
+        (Want::Text, 43, 4, 8),
+        (Want::Text, 48, 6, 9),
+        (Want::Text, 55, 4, 10),
+        (Want::Text, 60, 4, 11),
+        (Want::Text, 65, 4, 12),
+        (Want::Name, 111, 1, 19),
+        (Want::Name, 119, 1, 21),
+        (Want::Name, 127, 1, 24),
+        (Want::Name, 129, 1, 25),
+        (Want::Name, 134, 1, 26),
+        (Want::Name, 136, 1, 27),
+        (Want::Sign(Sign::Slash), 137, 1, 27),
+        (Want::Name, 138, 1, 27),
+        (Want::Name, 140, 1, 28),
+        (Want::Sign(Sign::Slash), 141, 1, 28),
+        (Want::Sign(Sign::Star), 143, 1, 28),
+        (Want::Name, 144, 1, 28),
+        (Want::Sign(Sign::Semicolon), 156, 1, 31),
+        (Want::Name, 158, 1, 32),
+        (Want::Name, 163, 1, 32),
+        (Want::Whole(1), 165, 1, 33),
+        (Want::Whole(3), 170, 1, 34),
+        (Want::Name, 177, 1, 35),
+        (Want::Sign(Sign::Star), 179, 1, 36),
+        (Want::Text, 192, 3, 38),
+        (Want::Name, 201, 1, 39),
+        (Want::Word(Keyword::Void), 203, 4, 40),
+        (Want::Name, 208, 4, 40),
+        (Want::Sign(Sign::OpenRound), 212, 1, 40),
+        (Want::Sign(Sign::CloseRound), 213, 1, 40),
+        (Want::Sign(Sign::OpenCurly), 215, 1, 41),
+        (Want::Name, 219, 1, 42),
+        (Want::Sign(Sign::Assign), 221, 1, 42),
+        (Want::Whole(1), 223, 1, 42),
+        (Want::Sign(Sign::Semicolon), 224, 1, 42),
+        (Want::Sign(Sign::CloseCurly), 233, 1, 43),
+    ],
+);
+
+// Texts that stand alone.
+pub(super) static ALONE: [(&[u8], &[Row]); 11] = [
     (b"", &[]),
-    (b" \t\n\x0b\x0c\r", &[]),
-    (
-        b"a<=b",
-        &[
-            (Want::Name, 0, 1, 1),
-            (Want::Sign(Sign::AtMost), 1, 2, 1),
-            (Want::Name, 3, 1, 1),
-        ],
-    ),
-    (b"\na\n\nb", &[(Want::Name, 1, 1, 2), (Want::Name, 4, 1, 4)]),
-    (b"iff", &[(Want::Name, 0, 3, 1)]),
-];
-
-// Texts with their tokens, part 4.
-pub(super) static FOURTH_ACCEPTED: [(&[u8], &[Row]); 20] = [
-    (b"If", &[(Want::Name, 0, 2, 1)]),
-    (b"_", &[(Want::Name, 0, 1, 1)]),
-    (b"_1", &[(Want::Name, 0, 2, 1)]),
-    (b"void_", &[(Want::Name, 0, 5, 1)]),
-    (
-        b"ifelse if else",
-        &[
-            (Want::Name, 0, 6, 1),
-            (Want::Word(Keyword::If), 7, 2, 1),
-            (Want::Word(Keyword::Else), 10, 4, 1),
-        ],
-    ),
-    (
-        b"printx print",
-        &[(Want::Name, 0, 6, 1), (Want::Word(Keyword::Print), 7, 5, 1)],
-    ),
-    (b"A9_z", &[(Want::Name, 0, 4, 1)]),
-    (
-        b"<<=",
-        &[
-            (Want::Sign(Sign::ShiftLeft), 0, 2, 1),
-            (Want::Sign(Sign::Assign), 2, 1, 1),
-        ],
-    ),
-    (
-        b">>=",
-        &[
-            (Want::Sign(Sign::ShiftRight), 0, 2, 1),
-            (Want::Sign(Sign::Assign), 2, 1, 1),
-        ],
-    ),
-    (
-        b"===",
-        &[
-            (Want::Sign(Sign::EqualTo), 0, 2, 1),
-            (Want::Sign(Sign::Assign), 2, 1, 1),
-        ],
-    ),
-    (
-        b"!==",
-        &[
-            (Want::Sign(Sign::NotEqualTo), 0, 2, 1),
-            (Want::Sign(Sign::Assign), 2, 1, 1),
-        ],
-    ),
-    (
-        b"<=>",
-        &[
-            (Want::Sign(Sign::AtMost), 0, 2, 1),
-            (Want::Sign(Sign::GreaterThan), 2, 1, 1),
-        ],
-    ),
-    (
-        b"&&&",
-        &[
-            (Want::Sign(Sign::AndAnd), 0, 2, 1),
-            (Want::Sign(Sign::Ampersand), 2, 1, 1),
-        ],
-    ),
-    (
-        b"|||",
-        &[
-            (Want::Sign(Sign::OrOr), 0, 2, 1),
-            (Want::Sign(Sign::Bar), 2, 1, 1),
-        ],
-    ),
-    (
-        b"<<<",
-        &[
-            (Want::Sign(Sign::ShiftLeft), 0, 2, 1),
-            (Want::Sign(Sign::LessThan), 2, 1, 1),
-        ],
-    ),
-    (
-        b">>>",
-        &[
-            (Want::Sign(Sign::ShiftRight), 0, 2, 1),
-            (Want::Sign(Sign::GreaterThan), 2, 1, 1),
-        ],
-    ),
-    (
-        b"::::",
-        &[
-            (Want::Sign(Sign::ColonColon), 0, 2, 1),
-            (Want::Sign(Sign::ColonColon), 2, 2, 1),
-        ],
-    ),
-    (
-        b"..",
-        &[
-            (Want::Sign(Sign::Dot), 0, 1, 1),
-            (Want::Sign(Sign::Dot), 1, 1, 1),
-        ],
-    ),
-    (
-        b"a.b",
-        &[
-            (Want::Name, 0, 1, 1),
-            (Want::Sign(Sign::Dot), 1, 1, 1),
-            (Want::Name, 2, 1, 1),
-        ],
-    ),
-    (
-        b"a::b",
-        &[
-            (Want::Name, 0, 1, 1),
-            (Want::Sign(Sign::ColonColon), 1, 2, 1),
-            (Want::Name, 3, 1, 1),
-        ],
-    ),
-];
-
-// Texts with their tokens, part 5.
-pub(super) static FIFTH_ACCEPTED: [(&[u8], &[Row]); 20] = [
-    (
-        b"! =",
-        &[
-            (Want::Sign(Sign::Exclamation), 0, 1, 1),
-            (Want::Sign(Sign::Assign), 2, 1, 1),
-        ],
-    ),
-    (
-        b"< <",
-        &[
-            (Want::Sign(Sign::LessThan), 0, 1, 1),
-            (Want::Sign(Sign::LessThan), 2, 1, 1),
-        ],
-    ),
-    (
-        b"+-",
-        &[
-            (Want::Sign(Sign::Plus), 0, 1, 1),
-            (Want::Sign(Sign::Minus), 1, 1, 1),
-        ],
-    ),
-    (
-        b"--",
-        &[
-            (Want::Sign(Sign::Minus), 0, 1, 1),
-            (Want::Sign(Sign::Minus), 1, 1, 1),
-        ],
-    ),
-    (
-        b"*/",
-        &[
-            (Want::Sign(Sign::Star), 0, 1, 1),
-            (Want::Sign(Sign::Slash), 1, 1, 1),
-        ],
-    ),
-    (
-        b"%/ /",
-        &[
-            (Want::Sign(Sign::Percent), 0, 1, 1),
-            (Want::Sign(Sign::Slash), 1, 1, 1),
-            (Want::Sign(Sign::Slash), 3, 1, 1),
-        ],
-    ),
-    (
-        b"~!^",
-        &[
-            (Want::Sign(Sign::Tilde), 0, 1, 1),
-            (Want::Sign(Sign::Exclamation), 1, 1, 1),
-            (Want::Sign(Sign::Caret), 2, 1, 1),
-        ],
-    ),
-    (b"0", &[(Want::Whole(0), 0, 1, 1)]),
-    (b"007", &[(Want::Whole(7), 0, 3, 1)]),
-    (b"2147483647", &[(Want::Whole(2147483647), 0, 10, 1)]),
-    (b"2147483648", &[(Want::Whole(2147483648), 0, 10, 1)]),
-    (b"4294967295", &[(Want::Whole(4294967295), 0, 10, 1)]),
-    (
-        b"000000000000000000000000000000004294967295",
-        &[(Want::Whole(4294967295), 0, 42, 1)],
-    ),
-    (b"0x0", &[(Want::Whole(0), 0, 3, 1)]),
-    (b"0xFFFFFFFF", &[(Want::Whole(4294967295), 0, 10, 1)]),
-    (b"0Xdeadbeef", &[(Want::Whole(3735928559), 0, 10, 1)]),
-    (
-        b"0x1e+5",
-        &[
-            (Want::Whole(30), 0, 4, 1),
-            (Want::Sign(Sign::Plus), 4, 1, 1),
-            (Want::Whole(5), 5, 1, 1),
-        ],
-    ),
-    (
-        b"0xE-1",
-        &[
-            (Want::Whole(14), 0, 3, 1),
-            (Want::Sign(Sign::Minus), 3, 1, 1),
-            (Want::Whole(1), 4, 1, 1),
-        ],
-    ),
-    (b"0x1f", &[(Want::Whole(31), 0, 4, 1)]),
-    (b"0x00000001", &[(Want::Whole(1), 0, 10, 1)]),
-];
-
-// Texts with their tokens, part 6.
-pub(super) static SIXTH_ACCEPTED: [(&[u8], &[Row]); 20] = [
-    (b".5", &[(Want::Point(2147483648), 0, 2, 1)]),
-    (b"1.", &[(Want::Point(4294967296), 0, 2, 1)]),
-    (b"1.f", &[(Want::Point(4294967296), 0, 3, 1)]),
-    (b"1.5F", &[(Want::Point(6442450944), 0, 4, 1)]),
-    (b"1e5", &[(Want::Point(429496729600000), 0, 3, 1)]),
-    (b"1e+5", &[(Want::Point(429496729600000), 0, 4, 1)]),
-    (b"1E-5", &[(Want::Point(42950), 0, 4, 1)]),
-    (b"1e5f", &[(Want::Point(429496729600000), 0, 4, 1)]),
-    (b"2.5e0001", &[(Want::Point(107374182400), 0, 8, 1)]),
-    (b"1e40", &[(Want::Point(9223372036854775807), 0, 4, 1)]),
-    (b"1e-40", &[(Want::Point(0), 0, 5, 1)]),
-    (b"0.1", &[(Want::Point(429496730), 0, 3, 1)]),
-    (
-        b"1.234567890123456789012345",
-        &[(Want::Point(5302428713), 0, 26, 1)],
-    ),
-    (
-        b"1234567890123456789012345.",
-        &[(Want::Point(9223372036854775807), 0, 26, 1)],
-    ),
-    (
-        b"0000001234567890123456789012345.",
-        &[(Want::Point(9223372036854775807), 0, 32, 1)],
-    ),
-    (
-        b"1.0+2.0",
-        &[
-            (Want::Point(4294967296), 0, 3, 1),
-            (Want::Sign(Sign::Plus), 3, 1, 1),
-            (Want::Point(8589934592), 4, 3, 1),
-        ],
-    ),
-    (
-        b"-1.5",
-        &[
-            (Want::Sign(Sign::Minus), 0, 1, 1),
-            (Want::Point(6442450944), 1, 3, 1),
-        ],
-    ),
-    (
-        b"1 .5",
-        &[
-            (Want::Whole(1), 0, 1, 1),
-            (Want::Point(2147483648), 2, 2, 1),
-        ],
-    ),
-    (
-        b"a.5",
-        &[(Want::Name, 0, 1, 1), (Want::Point(2147483648), 1, 2, 1)],
-    ),
-    (b"1h", &[(Want::HalfPoint(4294967296), 0, 2, 1)]),
-];
-
-// Texts with their tokens, part 7.
-pub(super) static SEVENTH_ACCEPTED: [(&[u8], &[Row]); 20] = [
-    (b"0.1h", &[(Want::HalfPoint(429391872), 0, 4, 1)]),
-    (b"1.H", &[(Want::HalfPoint(4294967296), 0, 3, 1)]),
-    (b"1e1h", &[(Want::HalfPoint(42949672960), 0, 4, 1)]),
-    (b"65520h", &[(Want::HalfPoint(281337537757184), 0, 6, 1)]),
-    (b"1e-9h", &[(Want::HalfPoint(0), 0, 5, 1)]),
-    (
-        b"1234567890123456789012345h",
-        &[(Want::HalfPoint(281337537757184), 0, 26, 1)],
-    ),
-    (b"\"\"", &[(Want::Text, 0, 2, 1)]),
-    (b"\"a b\"", &[(Want::Text, 0, 5, 1)]),
-    (b"\"\\n\\t\\\"\\\\\"", &[(Want::Text, 0, 10, 1)]),
-    (b"\"\\q\"x", &[(Want::Text, 0, 4, 1), (Want::Name, 4, 1, 1)]),
-    (
-        b"\"a\"\"b\"",
-        &[(Want::Text, 0, 3, 1), (Want::Text, 3, 3, 1)],
-    ),
-    (b"\"/*\"", &[(Want::Text, 0, 4, 1)]),
-    (b"\"//\"", &[(Want::Text, 0, 4, 1)]),
-    (b"\"\\\\\"", &[(Want::Text, 0, 4, 1)]),
-    (b"\"\\\\\\\"\"", &[(Want::Text, 0, 6, 1)]),
-    (b"\"\x80\xff\"", &[(Want::Text, 0, 4, 1)]),
-    (b"\"\\\xc3\"", &[(Want::Text, 0, 4, 1)]),
-    (b"\"\r\0\"", &[(Want::Text, 0, 4, 1)]),
-    (b"// a", &[]),
+    (b"\n", &[]),
     (b"//", &[]),
-];
-
-// Texts with their tokens, part 8.
-pub(super) static EIGHTH_ACCEPTED: [(&[u8], &[Row]); 18] = [
+    (b"// a", &[]),
     (b"/**/", &[]),
-    (b"/* a */", &[]),
-    (b"/***/", &[]),
-    (b"/*/*/", &[]),
-    (b"/* // */a", &[(Want::Name, 8, 1, 1)]),
-    (b"// /*\na", &[(Want::Name, 6, 1, 2)]),
-    (b"/*\n\n*/a", &[(Want::Name, 6, 1, 3)]),
-    (b"a//b\nc", &[(Want::Name, 0, 1, 1), (Want::Name, 5, 1, 2)]),
-    (
-        b"a/b",
-        &[
-            (Want::Name, 0, 1, 1),
-            (Want::Sign(Sign::Slash), 1, 1, 1),
-            (Want::Name, 2, 1, 1),
-        ],
-    ),
-    (
-        b"a/ *b",
-        &[
-            (Want::Name, 0, 1, 1),
-            (Want::Sign(Sign::Slash), 1, 1, 1),
-            (Want::Sign(Sign::Star), 3, 1, 1),
-            (Want::Name, 4, 1, 1),
-        ],
-    ),
-    (b"//\xc3\n", &[]),
-    (b"/*\xff*/;", &[(Want::Sign(Sign::Semicolon), 5, 1, 1)]),
-    (b"a/**/b", &[(Want::Name, 0, 1, 1), (Want::Name, 5, 1, 1)]),
-    (
-        b"1//2\n3",
-        &[(Want::Whole(1), 0, 1, 1), (Want::Whole(3), 5, 1, 2)],
-    ),
-    (b"/*\"*/a", &[(Want::Name, 5, 1, 1)]),
-    (b"*//x", &[(Want::Sign(Sign::Star), 0, 1, 1)]),
-    (
-        b"/* a\n*/ \"b\" // c\nd",
-        &[(Want::Text, 8, 3, 2), (Want::Name, 17, 1, 3)],
-    ),
+    (b"a", &[(Want::Name, 0, 1, 1)]),
+    (b"<", &[(Want::Sign(Sign::LessThan), 0, 1, 1)]),
+    (b"1.", &[(Want::Point(4294967296), 0, 2, 1)]),
+    (b"0x1f", &[(Want::Whole(31), 0, 4, 1)]),
+    (b"\"\"", &[(Want::Text, 0, 2, 1)]),
     (
         b"void main()\n{\n  x = 1; // one\n}\n",
         &[
@@ -426,7 +282,7 @@ pub(super) static EIGHTH_ACCEPTED: [(&[u8], &[Row]); 18] = [
     ),
 ];
 
-// Texts with the byte, line and kind of their fault.
+// Texts with the byte, the line and the kind of their fault.
 pub(super) static REFUSED: [(&[u8], u32, u32, LexKind); 63] = [
     (b"a/*x", 1, 1, LexKind::OpenComment),
     (b"12ab", 0, 1, LexKind::Literal),

@@ -1,6 +1,6 @@
 -- The loop of `names::name_length`.
 use Rattle.std.proofs.Common.{◌≡◌, ◌<◌, ℕ, slice_index, true}
-use Rattle.ctl_tree.specs.Lexeme.{in_name}
+use Rattle.ctl_tree.specs.TokenBytes.{in_name}
 use Rattle.ctl_lexer.proofs.names.name_length.Given as goal
 
 abbrev pub invariant-loop-n : goal.invariant-loop-n

@@ -1,6 +1,6 @@
 -- Goals of `numbers::number_at`.
 use Rattle.fix_num.specs.declared.TheConstants.{FRACTION}
-use Rattle.ctl_lexer.proofs.Lexemes.{number_spelling}
+use Rattle.ctl_lexer.proofs.Longest.{number_spelling}
 use Rattle.ctl_lexer.proofs.Exits.{number_token, bad_number}
 use Rattle.ctl_lexer.proofs.numbers.number_at.Goals as goal
 

@@ -1,7 +1,7 @@
 -- Goals of `numbers::number_length`.
 use Rattle.std.proofs.Common.{◌≡◌, ◌-◌, slice_index, arith, sym, ◌∙◌, inl, inr, true, subst, ℕ, Bool}
 use Rattle.std.proofs.lemmas.Bool.{cases_lt}
-use Rattle.ctl_tree.specs.Lexeme.{in_number, goes_on_at}
+use Rattle.ctl_tree.specs.TokenBytes.{in_number, goes_on_at}
 use Rattle.ctl_lexer.proofs.numbers.number_length.Goals as goal
 
 pub loop-n-preserved : goal.loop-n-preserved

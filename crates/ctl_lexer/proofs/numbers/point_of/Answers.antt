@@ -13,6 +13,6 @@ returns-then-not-has_point_or_exponent c = λ raw p.
 pub returns : goal.returns
 returns c =
     let P : List ℕ → Type 0 = λ w. Reads FRACTION w c.read_decimal.result in
-    rw c.ok.ensures.value (read_point FRACTION c.args.bytes.now c.read_decimal.result c.requires
+    rw c.ok.ensures.value (read_point c.spells_once.ensures FRACTION c.args.bytes.now c.read_decimal.result c.requires
     (ap marked (sym c.without_f-spelling.ensures) ∙ sym c.has_point_or_exponent.ensures ∙ c.if-not-has_point_or_exponent.false)
     (subst P c.without_f-spelling.ensures c.read_decimal.ensures))

@@ -1,6 +1,6 @@
 -- Goals of `texts::text_length`.
 use Rattle.std.proofs.Common.{sym, ◌∙◌, arith}
-use Rattle.ctl_lexer.proofs.Lexemes.{no_text_before, no_text_over, text_here}
+use Rattle.ctl_lexer.proofs.Longest.{no_text_before, no_text_over, text_here}
 use Rattle.ctl_lexer.proofs.texts.text_length.Goals as goal
 
 pub returns-then-bytes-n-eq10 : goal.returns-then-bytes-n-eq10

@@ -1,6 +1,6 @@
 -- The loop of `texts::text_length`.
 use Rattle.std.proofs.Common.{◌≡◌, ◌<◌, ℕ, slice_index, false, eqb}
-use Rattle.ctl_tree.specs.Lexeme.{is_escaped, ends_text}
+use Rattle.ctl_tree.specs.TokenBytes.{is_escaped, ends_text}
 use Rattle.ctl_lexer.proofs.texts.text_length.Given as goal
 
 -- before this place no byte is a line feed, and none but the first ends a text

@@ -1,7 +1,8 @@
 -- The loop of `tokens::lex`.
 use Rattle.std.proofs.Common.{◌≡◌, ◌≤◌, ◌-◌, length}
 use Rattle.fix_num.specs.declared.TheConstants.{FRACTION}
-use Rattle.ctl_tree.specs.Tokens.{Covers, line_at}
+use Rattle.ctl_tree.specs.Tokens.{Covers}
+use Rattle.ctl_tree.specs.Lines.{line_at}
 use Rattle.ctl_lexer.proofs.tokens.lex.Given as goal
 
 -- the tokens so far cover the text up to the place

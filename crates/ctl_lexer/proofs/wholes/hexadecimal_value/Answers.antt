@@ -1,7 +1,7 @@
 -- Goals of `wholes::hexadecimal_value`.
 use Rattle.std.proofs.Common.{◌≡◌, ℕ, ◌+◌, ◌*◌, ◌≤◌, take, get_or, arith}
 use Rattle.std.proofs.lemmas.List.Sums.{fold_more}
-use Rattle.ctl_tree.specs.Lexeme.{hexadecimal_digit, hexadecimal_number}
+use Rattle.ctl_tree.specs.TokenBytes.{hexadecimal_digit, hexadecimal_number}
 use Rattle.ctl_lexer.proofs.Values.{hexadecimal_part}
 use Rattle.ctl_lexer.proofs.wholes.hexadecimal_value.Goals as goal
 

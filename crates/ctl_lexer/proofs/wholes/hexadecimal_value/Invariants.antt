@@ -1,6 +1,6 @@
 -- The loop of `wholes::hexadecimal_value`.
 use Rattle.std.proofs.Common.{◌≡◌, ◌<◌, ◌^◌, take}
-use Rattle.ctl_tree.specs.Lexeme.{hexadecimal_number}
+use Rattle.ctl_tree.specs.TokenBytes.{hexadecimal_number}
 use Rattle.ctl_lexer.proofs.wholes.hexadecimal_value.Given as goal
 
 abbrev pub invariant-loop-b : goal.invariant-loop-b

@@ -78,7 +78,8 @@ begins_number bytes = is_digit (slice_index bytes 0) || (slice_index bytes 0 == 
 abbrev pub begins_hexadecimal : List ℕ → Bool
 begins_hexadecimal bytes = slice_index bytes 0 == 48 && (slice_index bytes 1 == 120 || slice_index bytes 1 == 88)
 
--- whether a number spelling goes on over a byte: over a letter, a digit, _ or a point, and over a + or - directly after e or E where it is not hexadecimal
+-- whether a number spelling goes on over a byte: over a letter, a digit, _ or a point, and over a + or - directly after
+-- e or E where it is not hexadecimal
 abbrev pub in_number : Bool → ℕ → ℕ → Bool
 in_number hexadecimal before b = in_name b || (b == 46 || ((b == 43 || b == 45) && ((before == 101 || before == 69) && not hexadecimal)))
 
@@ -143,7 +144,8 @@ ends_with lower upper bytes = last_byte bytes == lower || last_byte bytes == upp
 abbrev pub without_f : List ℕ → List ℕ
 without_f bytes = if ends_with 102 70 bytes then but_last bytes else bytes
 
--- the bytes spell a point number with this raw: a decimal number with a point or an exponent and at most 25 significant digits, and nothing or f or F after it.
+-- the bytes spell a point number with this raw: a decimal number with a point or an exponent and at most 25 significant
+-- digits, and nothing or f or F after it.
 -- It has no sign, since a number spelling begins with a digit or a point
 pub record IsPoint (F : ℕ) (bytes : List ℕ) (raw : ℤ) : Type 0 where
   pub decimal : Decimal
@@ -153,7 +155,8 @@ pub record IsPoint (F : ℕ) (bytes : List ℕ) (raw : ℤ) : Type 0 where
   pub few : significant (digits_of decimal) ≤ most_digits
   pub value : raw ≡ decimal_raw F decimal
 
--- the bytes spell a half number with this raw: a decimal number of at most 25 significant digits, and h or H after it. Its value is the half nearest to the decimal's float
+-- the bytes spell a half number with this raw: a decimal number of at most 25 significant digits, and h or H after it.
+-- Its value is the half nearest to the decimal's float
 pub record IsHalfPoint (F : ℕ) (bytes : List ℕ) (raw : ℤ) : Type 0 where
   pub decimal : Decimal
   pub whole : IsNumberSpelling bytes
@@ -175,5 +178,5 @@ SpellsKind F Text bytes = IsText bytes
 SpellsKind F (SignKind sign) bytes = bytes ≡ sign_bytes sign
 
 -- the bytes of a token before its kind is looked at: a name or keyword, a number spelling, a sign or a text
-abbrev pub IsLexeme : List ℕ → Type 0
-IsLexeme bytes = IsName bytes ⊎ (IsNumberSpelling bytes ⊎ (IsSign bytes ⊎ IsText bytes))
+abbrev pub IsTokenBytes : List ℕ → Type 0
+IsTokenBytes bytes = IsName bytes ⊎ (IsNumberSpelling bytes ⊎ (IsSign bytes ⊎ IsText bytes))

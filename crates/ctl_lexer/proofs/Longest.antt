@@ -1,4 +1,4 @@
--- The longest lexeme at the front of a list of bytes.
+-- The longest bytes of a token at the front of a list.
 use Rattle.std.proofs.Common.{◌≡◌, ℕ, suc, zero, ◌+◌, ◌-◌, ◌<◌, ◌≤◌, Bool, true, false, not, ◌&&◌, ◌||◌, List, [], ◌∷◌, length, take, slice_index, eqb, arith, sym, ap, subst, ◌∙◌, inl, inr, refl}
 use Rattle.std.specs.Prelude.{nat_le}
 use Rattle.std.proofs.lemmas.Bool.{cases_lt, false≢true, and_parts, or_left, or_right, not-true, and_from, eq-eqb}
@@ -7,13 +7,10 @@ use Rattle.std.proofs.lemmas.List.{get_or-take, length-take-le}
 use Rattle.ctl_tree.specs.declared.sign.Sign.{Sign}
 use Rattle.ctl_tree.specs.declared.sign.Sign.TheVariants.{Plus, Minus, Star, Slash, Percent, Ampersand, Bar, Caret, Tilde, ShiftLeft, ShiftRight, AndAnd, OrOr, Exclamation, EqualTo, NotEqualTo, LessThan, AtMost, GreaterThan, AtLeast, Assign, OpenRound, CloseRound, OpenSquare, CloseSquare, OpenCurly, CloseCurly, Comma, Semicolon, Dot, ColonColon}
 use Rattle.ctl_tree.specs.Spelling.{sign_bytes}
-use Rattle.ctl_tree.specs.Lexeme.{is_digit, is_blank, is_escaped, ends_text, begins_name, in_name, begins_number, begins_hexadecimal, goes_on_at, IsName, IsNumberSpelling, IsSign, IsText, IsLexeme}
+use Rattle.ctl_tree.specs.TokenBytes.{is_digit, is_blank, is_escaped, ends_text, begins_name, in_name, begins_number, begins_hexadecimal, goes_on_at, IsName, IsNumberSpelling, IsSign, IsText, IsTokenBytes}
 use Rattle.ctl_tree.specs.Tokens.{IsLongest}
 
 -- tests of one byte
-
-name_no_digit : (b : ℕ) → begins_name b ≡ true → is_digit b ≡ true → ⊥
-name_no_digit b h k = grind (arith, nat_tests)
 
 name_goes_on : (b : ℕ) → begins_name b ≡ true → in_name b ≡ true
 name_goes_on b h = ap (λ t. t || is_digit b) h
@@ -73,9 +70,6 @@ sign_short w h =
 plain_no_name : (b : ℕ) → plain b ≡ true → begins_name b ≡ true → ⊥
 plain_no_name b h k = false≢true (sym (not-true _ (and_parts _ _ (and_parts _ _ h).0).0) ∙ k)
 
-plain_no_digit : (b : ℕ) → plain b ≡ true → is_digit b ≡ true → ⊥
-plain_no_digit b h k = false≢true (sym (not-true _ (and_parts _ _ (and_parts _ _ h).0).1) ∙ k)
-
 plain_no_quote : (b : ℕ) → plain b ≡ true → b ≡ 34 → ⊥
 plain_no_quote b h k = false≢true (sym (not-true _ (and_parts _ _ (and_parts _ _ (and_parts _ _ h).1).0).0) ∙ eq-eqb b 34 k)
 
@@ -85,7 +79,7 @@ plain_no_blank b h k = false≢true (sym (not-true _ (and_parts _ _ (and_parts _
 plain_some : (b : ℕ) → plain b ≡ true → b ≡ 0 → ⊥
 plain_some b h k = false≢true (sym (not-true _ (and_parts _ _ (and_parts _ _ h).1).1) ∙ eq-eqb b 0 k)
 
--- what a lexeme at the front says of the bytes
+-- what the bytes of a token at the front say of all
 
 pub long : (bytes : List ℕ) (m : ℕ) → m ≤ length bytes → 0 < length (take m bytes) → 0 < m
 long bytes m le some = omega (arith, length-take-le m bytes le)
@@ -135,9 +129,9 @@ ends_take bytes m i lt = rw (get_or-take m bytes i 0 lt, escaped_take bytes m i 
 
 pub same_longest : (bytes : List ℕ) (n m : ℕ) → IsLongest bytes n → IsLongest bytes m → n ≡ m
 same_longest bytes n m h k = elim (cases_lt n m) [
-  | inl less ↦ absurd (h.longest m less k.within k.lexeme)
+  | inl less ↦ absurd (h.longest m less k.within k.written)
   | inr no_less ↦ elim (cases_lt m n) [
-    | inl more ↦ absurd (k.longest n more h.within h.lexeme)
+    | inl more ↦ absurd (k.longest n more h.within h.written)
     | inr equal ↦ omega arith
   ]
 ]
@@ -181,10 +175,10 @@ text_here bytes n pos lt begins goes_on one_line quote plain_there =
       ends = subst P f (ends_take bytes (n + 1) n (omega arith) ∙ ends);
     }
 
--- the four kinds of longest lexeme
+-- the longest of each of the four sorts
 
 name_only : (bytes : List ℕ) (n m : ℕ) → begins_name (slice_index bytes 0) ≡ true → (n < length bytes → in_name (slice_index bytes n) ≡ false) → 0 < n → n < m → m ≤ length bytes
-    → IsLexeme (take m bytes) → ⊥
+    → IsTokenBytes (take m bytes) → ⊥
 name_only bytes n m begins stops pos lt le (inl name) = false≢true (sym (stops (omega arith)) ∙ name_inside bytes m n le name pos lt)
 name_only bytes n m begins stops pos lt le (inr (inl number)) = let k = number_front bytes m le number in grind (arith, nat_tests)
 name_only bytes n m begins stops pos lt le (inr (inr (inl sign))) = plain_no_name (slice_index bytes 0) (sign_front bytes m le sign) begins
@@ -198,12 +192,12 @@ name_longest (b ∷ bytes) (suc n) more begins within pass stops =
     let e : length (take (suc n) (b ∷ bytes)) ≡ suc n = length-take-le (suc n) (b ∷ bytes) within in
     record {
       within = within;
-      lexeme = inl record {
+      written = inl record {
         some = omega arith;
         begins = begins;
         goes_on = λ i pos lt. let l : i < suc n = omega arith in ap in_name (get_or-take (suc n) (b ∷ bytes) i 0 l) ∙ pass i l;
       };
-      longest = λ m lt le lexeme. name_only (b ∷ bytes) (suc n) m begins stops (omega arith) lt le lexeme;
+      longest = λ m lt le written. name_only (b ∷ bytes) (suc n) m begins stops (omega arith) lt le written;
     }
 
 pub neither : (a e d : Bool) → a ≡ false → d ≡ false → (a || (e && d)) ≡ true → ⊥
@@ -220,7 +214,7 @@ number_sign bytes m begins lt le sign =
 
 number_only : (bytes : List ℕ) (n m : ℕ) → begins_number bytes ≡ true
     → (n < length bytes → goes_on_at bytes n ≡ false) → 0 < n → n < m → m ≤ length bytes
-    → IsLexeme (take m bytes) → ⊥
+    → IsTokenBytes (take m bytes) → ⊥
 number_only bytes n m begins stops pos lt le (inl name) = let k = name_front bytes m le name in grind (arith, nat_tests)
 number_only bytes n m begins stops pos lt le (inr (inl number)) = false≢true (sym (stops (omega arith)) ∙ number_inside bytes m n le number pos lt)
 number_only bytes n m begins stops pos lt le (inr (inr (inl sign))) = number_sign bytes m begins (omega arith) le sign
@@ -261,12 +255,12 @@ pub number_longest : (bytes : List ℕ) (n : ℕ) → begins_number bytes ≡ tr
     → (n < length bytes → goes_on_at bytes n ≡ false) → IsLongest bytes n
 number_longest bytes n begins pos within spelling stops = record {
   within = within;
-  lexeme = inr (inl spelling);
-  longest = λ m lt le lexeme. number_only bytes n m begins stops pos lt le lexeme;
+  written = inr (inl spelling);
+  longest = λ m lt le written. number_only bytes n m begins stops pos lt le written;
 }
 
 sign_only : (bytes : List ℕ) (n m : ℕ) → (slice_index bytes 0 ≡ 34 → ⊥) → begins_name (slice_index bytes 0) ≡ false → begins_number bytes ≡ false
-    → ((k : ℕ) → n < k → k ≤ length bytes → IsSign (take k bytes) → ⊥) → n < m → m ≤ length bytes → IsLexeme (take m bytes) → ⊥
+    → ((k : ℕ) → n < k → k ≤ length bytes → IsSign (take k bytes) → ⊥) → n < m → m ≤ length bytes → IsTokenBytes (take m bytes) → ⊥
 sign_only bytes n m no_text no_name no_number longer lt le (inl name) = false≢true (sym no_name ∙ name_front bytes m le name)
 sign_only bytes n m no_text no_name no_number longer lt le (inr (inl number)) = false≢true (sym no_number ∙ number_front bytes m le number)
 sign_only bytes n m no_text no_name no_number longer lt le (inr (inr (inl sign))) = longer m lt le sign
@@ -277,8 +271,8 @@ pub sign_longest : (bytes : List ℕ) (n : ℕ) → n ≤ length bytes → (slic
     → ((k : ℕ) → n < k → k ≤ length bytes → IsSign (take k bytes) → ⊥) → IsLongest bytes n
 sign_longest bytes n le no_text no_name no_number sign longer = record {
   within = le;
-  lexeme = inr (inr (inl sign));
-  longest = λ m lt within lexeme. sign_only bytes n m no_text no_name no_number longer lt within lexeme;
+  written = inr (inr (inl sign));
+  longest = λ m lt within written. sign_only bytes n m no_text no_name no_number longer lt within written;
 }
 
 -- no text goes on after another
@@ -291,7 +285,7 @@ longer_text bytes n m len le h lt k =
     let ends : ends_text (take n bytes) (n - 1) ≡ true = subst P e h.ends in
     false≢true (sym (k.goes_on (n - 1) (omega arith) (omega arith)) ∙ ends_take bytes m (n - 1) (omega arith) ∙ sym (ends_take bytes n (n - 1) (omega arith)) ∙ ends)
 
-text_only : (bytes : List ℕ) (n m : ℕ) → n ≤ length bytes → IsText (take n bytes) → n < m → m ≤ length bytes → IsLexeme (take m bytes) → ⊥
+text_only : (bytes : List ℕ) (n m : ℕ) → n ≤ length bytes → IsText (take n bytes) → n < m → m ≤ length bytes → IsTokenBytes (take m bytes) → ⊥
 text_only bytes n m len h lt le (inl name) = let q = text_front bytes n len h in let k = name_front bytes m le name in grind (arith, nat_tests)
 text_only bytes n m len h lt le (inr (inl number)) = let q = text_front bytes n len h in let k = number_front bytes m le number in grind (arith, nat_tests)
 text_only bytes n m len h lt le (inr (inr (inl sign))) = plain_no_quote (slice_index bytes 0) (sign_front bytes m le sign) (text_front bytes n len h)
@@ -300,26 +294,26 @@ text_only bytes n m len h lt le (inr (inr (inr text))) = longer_text bytes n m l
 pub text_longest : (bytes : List ℕ) (n : ℕ) → n ≤ length bytes → IsText (take n bytes) → IsLongest bytes n
 text_longest bytes n le h = record {
   within = le;
-  lexeme = inr (inr (inr h));
-  longest = λ m lt within lexeme. text_only bytes n m le h lt within lexeme;
+  written = inr (inr (inr h));
+  longest = λ m lt within written. text_only bytes n m le h lt within written;
 }
 
--- a lexeme is not empty, and its first byte is no blank
+-- a token has a byte, and its first is no blank
 
-lexeme_some : (bytes : List ℕ) → IsLexeme bytes → 0 < length bytes
-lexeme_some bytes (inl name) = name.some
-lexeme_some bytes (inr (inl number)) = number.some
-lexeme_some bytes (inr (inr (inl sign))) = sign_some bytes sign
-lexeme_some bytes (inr (inr (inr text))) = let some = text.some in omega arith
+bytes_some : (bytes : List ℕ) → IsTokenBytes bytes → 0 < length bytes
+bytes_some bytes (inl name) = name.some
+bytes_some bytes (inr (inl number)) = number.some
+bytes_some bytes (inr (inr (inl sign))) = sign_some bytes sign
+bytes_some bytes (inr (inr (inr text))) = let some = text.some in omega arith
 
 pub longest_some : (bytes : List ℕ) (n : ℕ) → IsLongest bytes n → 0 < n
-longest_some bytes n h = long bytes n h.within (lexeme_some (take n bytes) h.lexeme)
+longest_some bytes n h = long bytes n h.within (bytes_some (take n bytes) h.written)
 
-lexeme_no_blank : (bytes : List ℕ) (n : ℕ) → n ≤ length bytes → IsLexeme (take n bytes) → is_blank (slice_index bytes 0) ≡ true → ⊥
-lexeme_no_blank bytes n le (inl name) blank = let k = name_front bytes n le name in grind (arith, nat_tests)
-lexeme_no_blank bytes n le (inr (inl number)) blank = let k = number_front bytes n le number in grind (arith, nat_tests)
-lexeme_no_blank bytes n le (inr (inr (inl sign))) blank = plain_no_blank (slice_index bytes 0) (sign_front bytes n le sign) blank
-lexeme_no_blank bytes n le (inr (inr (inr text))) blank = let k = text_front bytes n le text in grind (arith, nat_tests)
+bytes_no_blank : (bytes : List ℕ) (n : ℕ) → n ≤ length bytes → IsTokenBytes (take n bytes) → is_blank (slice_index bytes 0) ≡ true → ⊥
+bytes_no_blank bytes n le (inl name) blank = let k = name_front bytes n le name in grind (arith, nat_tests)
+bytes_no_blank bytes n le (inr (inl number)) blank = let k = number_front bytes n le number in grind (arith, nat_tests)
+bytes_no_blank bytes n le (inr (inr (inl sign))) blank = plain_no_blank (slice_index bytes 0) (sign_front bytes n le sign) blank
+bytes_no_blank bytes n le (inr (inr (inr text))) blank = let k = text_front bytes n le text in grind (arith, nat_tests)
 
 pub longest_no_blank : (bytes : List ℕ) (n : ℕ) → IsLongest bytes n → is_blank (slice_index bytes 0) ≡ true → ⊥
-longest_no_blank bytes n h blank = lexeme_no_blank bytes n h.within h.lexeme blank
+longest_no_blank bytes n h blank = bytes_no_blank bytes n h.within h.written blank

@@ -1,14 +1,14 @@
--- What the parts of the lexer say of the bytes at a front. The definitions of tokens do not rest on these.
+-- Means of the lexer alone: what its parts say of the bytes at a front. No public contract cites these.
 use Rattle.std.specs.Prelude.{◌≡◌, ℕ, ℤ, ◌<◌, ◌≤◌, ◌⊎◌, ◌==◌, ◌||◌, Bool, true, List, [], ◌∷◌, length, take, drop, slice_index, Result, Ok, Err, Option, Some, None}
 use Rattle.ctl_tree.specs.declared.token.Token.{Token}
 use Rattle.ctl_tree.specs.declared.token.TokenKind.{TokenKind}
 use Rattle.ctl_tree.specs.declared.fault.LexKind.{LexKind}
 use Rattle.ctl_tree.specs.declared.sign.Sign.{Sign}
 use Rattle.ctl_tree.specs.Spelling.{sign_bytes}
-use Rattle.ctl_tree.specs.Lexeme.{is_blank, IsText, IsWhole, IsDigits, IsHexadecimal, IsPoint, IsHalfPoint, IsKeyword}
-use Rattle.ctl_tree.specs.Tokens.{IsComment, IsToken, NothingBegins, IsKindOf, HasFault, StandsFor, line_at}
+use Rattle.ctl_tree.specs.TokenBytes.{is_blank, IsText, IsWhole, IsDigits, IsHexadecimal, IsPoint, IsHalfPoint, IsKeyword}
+use Rattle.ctl_tree.specs.Tokens.{IsComment, IsToken, NothingBegins, IsKindOf}
 use Rattle.ctl_lexer.specs.declared.front.Piece.{Piece}
-use Rattle.ctl_lexer.specs.declared.front.Piece.TheVariants.{Space, Lexeme}
+use Rattle.ctl_lexer.specs.declared.front.Piece.TheVariants.{Space, Token as TokenPiece}
 use Rattle.ctl_lexer.specs.declared.fault.LexFault.{LexFault}
 use Rattle.ctl_lexer.specs.declared.fault.LexFault.TheVariants.{At, Memory}
 
@@ -19,22 +19,22 @@ IsSpace bytes n = ((n ≡ 1) × (0 < length bytes) × (is_blank (slice_index byt
 -- the piece stands at the front
 abbrev pub IsPiece : ℕ → List ℕ → Piece → Type 0
 IsPiece F bytes (Space n) = IsSpace bytes n
-IsPiece F bytes (Lexeme kind n) = IsToken F kind bytes n
+IsPiece F bytes (TokenPiece kind n) = IsToken F kind bytes n
 
 -- the piece that begins the bytes, or what is wrong where none does
-abbrev pub Begins : ℕ → List ℕ → Result Piece LexKind → Type 0
-Begins F bytes (Ok piece) = IsPiece F bytes piece
-Begins F bytes (Err kind) = NothingBegins F bytes × IsKindOf kind bytes
+abbrev pub IsFront : ℕ → List ℕ → Result Piece LexKind → Type 0
+IsFront F bytes (Ok piece) = IsPiece F bytes piece
+IsFront F bytes (Err kind) = NothingBegins F bytes × IsKindOf kind bytes
 
 -- how many bytes a piece has
 abbrev pub piece_len : Piece → ℕ
 piece_len (Space n) = n
-piece_len (Lexeme kind n) = n
+piece_len (TokenPiece kind n) = n
 
 -- the kind of the token of a piece, if it has one
 abbrev pub piece_kind : Piece → Option TokenKind
 piece_kind (Space n) = None
-piece_kind (Lexeme kind n) = Some kind
+piece_kind (TokenPiece kind n) = Some kind
 
 -- the token of a kind at a place and line, if there is one
 abbrev pub tokens_of : Option TokenKind → ℕ → ℕ → ℕ → List Token
@@ -89,16 +89,6 @@ TextLength bytes None = (n : ℕ) → n ≤ length bytes → IsText (take n byte
 -- a point, e or E
 abbrev pub is_mark : ℕ → Bool
 is_mark b = b == 46 || (b == 101 || b == 69)
-
--- a fault is the text's, at its byte and line and of its kind
-abbrev pub FaultOf : ℕ → List ℕ → LexFault → Type 0
-FaultOf F text (At at line kind) = HasFault F text at kind × (line ≡ line_at text at)
-FaultOf F text Memory = Unit {0}
-
--- where the text has a fault, no tokens stand for it
-abbrev pub NoList : ℕ → List ℕ → LexFault → Type 0
-NoList F text (At at line kind) = (tokens : List Token) → StandsFor F tokens text → ⊥
-NoList F text Memory = Unit {0}
 
 -- nothing begins at the place, whose line and kind of fault are these
 abbrev pub FaultAt : ℕ → List ℕ → ℕ → ℕ → LexFault → Type 0
