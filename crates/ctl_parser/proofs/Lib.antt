@@ -1,36 +1,11 @@
-pub mod Places
-pub mod Reach
-pub mod Lacking
-pub mod Steps
-pub mod PassNames
-pub mod NameExits
-pub mod PassExpressions
-pub mod PassDeclarations
-pub mod PassStatements
-pub mod PassModules
-pub mod Dead
-pub mod Carry
-pub mod ExpressionExits
-pub mod Refused
-pub mod DeclarationExits
-pub mod AssignmentExits
-pub mod StatementExits
-pub mod Unescape
-pub mod Meaning
-pub mod Tokens
-pub mod SoundNames
-pub mod SoundExpressions
-pub mod SoundDeclarations
-pub mod SoundStatements
-pub mod SoundDefinitions
-pub mod Runs
-pub mod Completion
-pub mod Completed
-pub mod Beginning
-pub mod Progress
-pub mod Sinking
-pub mod ParameterExits
-pub mod DefinitionExits
-pub mod ModuleExits
-pub mod Standing
-pub mod Refusals
+mod MovesOfDefinitions
+mod MovesOfStatements
+mod Printable
+mod ReadStatements
+mod Readings
+mod Refusals
+mod Standing
+mod StepsOfDefinitions
+mod StepsOfStatements
+mod Unescape
+mod Ways

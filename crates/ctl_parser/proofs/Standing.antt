@@ -7,9 +7,9 @@ use Rattle.ctl_tree.specs.declared.sign.Sign.TheVariants.{Plus}
 use Rattle.ctl_tree.specs.declared.token.Token.{Token}
 use Rattle.ctl_tree.specs.declared.token.TokenKind.{TokenKind}
 use Rattle.ctl_tree.specs.Spelling.{sign_bytes}
-use Rattle.ctl_tree.specs.Lexeme.{IsLexeme}
+use Rattle.ctl_tree.specs.TokenBytes.{IsTokenBytes}
 use Rattle.ctl_tree.specs.Tokens.{IsGap, nothing, blank, comment, IsToken, CoversFrom, StandsFor}
-use Rattle.ctl_parser.specs.Lookup.{IsInside}
+use Rattle.ctl_parser_expr.specs.Lookup.{IsInside}
 
 -- a gap does not end before it begins
 pub gap_up : {text : List ℕ} {p q : ℕ} → IsGap text p q → p ≤ q
@@ -30,14 +30,14 @@ holding : (bytes : List ℕ) → holds_some bytes ≡ true → 0 < length bytes
 holding [] e = absurd (false≢true e)
 holding (b ∷ bytes) e = omega arith
 
-lexeme_some : (bytes : List ℕ) → IsLexeme bytes → 0 < length bytes
+lexeme_some : (bytes : List ℕ) → IsTokenBytes bytes → 0 < length bytes
 lexeme_some bytes (inl name) = name.some
 lexeme_some bytes (inr (inl number)) = number.some
 lexeme_some bytes (inr (inr (inl (sign, is)))) = holding bytes (ap holds_some is ∙ sign_holds sign)
 lexeme_some bytes (inr (inr (inr text))) = omega (arith, text.some)
 
 token_some : {F : ℕ} {kind : TokenKind} (bytes : List ℕ) (n : ℕ) → IsToken F kind bytes n → 0 < n
-token_some bytes n t = omega (arith, length-take-le n bytes t.whole.within, lexeme_some (take n bytes) t.whole.lexeme)
+token_some bytes n t = omega (arith, length-take-le n bytes t.whole.within, lexeme_some (take n bytes) t.whole.written)
 
 token_within : {F : ℕ} {kind : TokenKind} (text : List ℕ) (at n : ℕ) → IsToken F kind (drop at text) n → at + n ≤ length text
 token_within text at n t = omega (arith, length-drop at text, token_some (drop at text) n t, t.whole.within)

@@ -1,8 +1,8 @@
 //! What single tokens begin.
 
 ghost use Rattle.std.specs.Prelude.{◌≡◌};
-ghost use Rattle.ctl_parser.specs.Front.{begins_word_shape as word_shape_begins, begins_shape as shape_begins, begins_statement as statement_begins};
-ghost use Rattle.ctl_parser.specs.Parts.{goes_on_as_place as goes_on};
+ghost use Rattle.grammar_machine.specs.Front.{begins_word_shape as word_shape_begins, begins_shape as shape_begins, begins_statement as statement_begins};
+ghost use Rattle.ctl_parser.specs.PrivateParts.{goes_on_as_place as goes_on};
 
 use ctl_tree::{Keyword, Sign, TokenKind};
 

@@ -1,24 +1,22 @@
 //! Definitions.
 
-ghost use Rattle.std.specs.Prelude.{◌≡◌, ◌+◌, ◌<◌, ◌≤◌, ◌^◌, [], ◌∷◌, length, Some, IfOk, IfErr, true, false};
+ghost use Rattle.std.specs.Prelude.{◌≡◌, ◌+◌, ◌<◌, ◌≤◌, List, [], ◌∷◌, length, Some, true};
 ghost use Rattle.ctl_tree.specs.declared.keyword.Keyword.TheVariants.{Struct as StructWord, Namespace as NamespaceWord};
+ghost use Rattle.ctl_tree.specs.declared.definition.Definition.TheVariants.{Namespace as NamespaceForm};
 ghost use Rattle.ctl_tree.specs.Lexemes.{kind_at, SeesWord};
-ghost use Rattle.ctl_tree.specs.Modules.{IsResult, IsFunction, IsField, MayEnd, IsStruct, IsDefinition, AreDefinitions, ends as definitions_end};
-ghost use Rattle.ctl_parser.specs.Front.{begins_result};
-ghost use Rattle.ctl_parser.specs.Machine.{begins_definition as definition_begins};
-ghost use Rattle.ctl_parser.specs.Machine.Symbol.{Result as ResultSymbol, Field as FieldSymbol, MoreFields, Definition as DefinitionSymbol, Definitions};
-ghost use Rattle.ctl_parser.specs.Fails.{Fails};
-ghost use Rattle.ctl_parser.specs.Lookup.{IsBetween, IsFrom};
-ghost use Rattle.ctl_parser.specs.Groups.{AreFields, IsNamespace};
+ghost use Rattle.ctl_tree.specs.Modules.{IsResult, IsFunction, IsField, AreMoreFields, MayEnd, IsStruct, IsDefinition, AreDefinitions, ends as definitions_end};
+ghost use Rattle.grammar_machine.specs.Front.{begins_result};
+ghost use Rattle.grammar_machine.specs.Machine.{Symbol, begins_definition as definition_begins};
+ghost use Rattle.grammar_machine.specs.Machine.Symbol.{Result as ResultSymbol, Field as FieldSymbol, MoreFields, MayEnd as MayEndSymbol, Definition as DefinitionSymbol, Definitions};
+ghost use Rattle.ctl_parser_expr.specs.Parses.{Parses, ParsesAny, IsFrom, Comes, At};
+ghost use Rattle.ctl_parser.specs.PrivateParts.{Several};
 
-use crate::declarations::{constant, sizes};
-use crate::fault::Fault;
-use crate::lexemes::Lexemes;
-use crate::marks::{deeper, expect, name, sees, sees_word};
-use crate::names::shape;
 use crate::parameters::parameters;
 use crate::statements::block;
-use ctl_base::limits::NESTING;
+use ctl_base::limits::{NESTING, TEXT_BYTES};
+use ctl_parser_expr::{
+    Fault, Lexemes, allow_deeper, constant, expect, name, put, sees, sees_word, shape, sizes,
+};
 use ctl_tree::{
     Definition, Field, Function, Keyword, Namespace, Sign, SizedShape, Struct, TokenKind,
 };
@@ -26,17 +24,15 @@ use sqlite_items::Items;
 use std::alloc::Global;
 
 // `"void" | shape { "[" expr "]" }`
-#[tactic(auto, using(crate::proofs::DefinitionExits::definitions))]
+#[tactic(auto, using(crate::proofs::Ways::no_memory))]
 fn result_shape(
     alloc: Global,
     lexemes: &Lexemes<'_>,
     nesting: u32,
     at: usize,
 ) -> Result<(Option<SizedShape>, usize), Fault>
-    requires shallow { nesting ≤ NESTING }
-    ensures spells { IfOk result (λ r. IsResult lexemes.now (Some NESTING) nesting at r.0 r.1) }
-    ensures ends { IfOk result (λ r. IsBetween at r.1 lexemes.now) }
-    ensures fails { IfErr result (Fails lexemes.now (Some NESTING) (ResultSymbol nesting ∷ []) at) }
+    requires { nesting ≤ NESTING }
+    ensures { Parses lexemes.now (IsResult lexemes.now (Some NESTING) nesting at) (ResultSymbol nesting ∷ []) at result }
 {
     if sees_word(lexemes, Keyword::Void, at) {
         return Ok((None, at + 1));
@@ -47,7 +43,7 @@ fn result_shape(
 }
 
 // `result NAME "(" [ param { "," param } ] ")" block`, where a result begins.
-#[tactic(auto, using(crate::proofs::DefinitionExits::definitions))]
+#[tactic(auto, using(crate::proofs::Ways::no_memory))]
 fn function(
     alloc: Global,
     lexemes: &Lexemes<'_>,
@@ -56,88 +52,78 @@ fn function(
 ) -> Result<(Function, usize), Fault>
     requires shallow { nesting ≤ NESTING }
     requires begins { begins_result (kind_at lexemes.now at) ≡ true }
-    ensures spells { IfOk result (λ r. IsFunction lexemes.now (Some NESTING) nesting at r.0 r.1) }
-    ensures ends { IfOk result (λ r. IsBetween at r.1 lexemes.now) }
-    ensures fails { IfErr result (Fails lexemes.now (Some NESTING) (DefinitionSymbol nesting ∷ []) at) }
+    ensures { Parses lexemes.now (IsFunction lexemes.now (Some NESTING) nesting at) (DefinitionSymbol nesting ∷ []) at result }
 {
-    let inner = deeper(nesting, at)?;
+    allow_deeper(nesting, at)?;
     let (result, place) = result_shape(alloc, lexemes, nesting, at)?;
     let name = name(alloc, lexemes, place)?;
-    let begin = expect(lexemes, Sign::OpenRound, place + 1)?;
-    let (parameters, next) = parameters(alloc, lexemes, nesting, begin)?;
-    let (body, end) = block(alloc, lexemes, inner, next)?;
+    expect(lexemes, Sign::OpenRound, place + 1)?;
+    let (parameters, next) = parameters(alloc, lexemes, nesting, place + 2)?;
+    let (body, end) = block(alloc, lexemes, nesting + 1, next)?;
     let token = place as u32;
-    Ok((
-        Function {
-            result,
-            name,
-            parameters,
-            body,
-            token,
-        },
-        end,
-    ))
+    let function = Function {
+        result,
+        name,
+        parameters,
+        body,
+        token,
+    };
+    Ok((function, end))
 }
 
 // `shape NAME { "[" expr "]" } ";"`
-#[tactic(auto, using(crate::proofs::DefinitionExits::definitions))]
+#[tactic(auto, using(crate::proofs::Ways::no_memory))]
 fn field(
     alloc: Global,
     lexemes: &Lexemes<'_>,
     nesting: u32,
     at: usize,
 ) -> Result<(Field, usize), Fault>
-    requires shallow { nesting ≤ NESTING }
-    ensures spells { IfOk result (λ r. IsField lexemes.now (Some NESTING) nesting at r.0 r.1) }
-    ensures ends { IfOk result (λ r. IsBetween at r.1 lexemes.now) }
-    ensures fails { IfErr result (Fails lexemes.now (Some NESTING) (FieldSymbol nesting ∷ []) at) }
+    requires { nesting ≤ NESTING }
+    ensures { Parses lexemes.now (IsField lexemes.now (Some NESTING) nesting at) (FieldSymbol nesting ∷ []) at result }
 {
     let (shape, place) = shape(alloc, lexemes, at)?;
     let name = name(alloc, lexemes, place)?;
-    let (sizes, next) = sizes(alloc, lexemes, nesting, place + 1)?;
-    let end = expect(lexemes, Sign::Semicolon, next)?;
+    let (sizes, last) = sizes(alloc, lexemes, nesting, place + 1)?;
+    expect(lexemes, Sign::Semicolon, last)?;
     let token = place as u32;
-    Ok((
-        Field {
-            shape,
-            name,
-            sizes,
-            token,
-        },
-        end,
-    ))
+    let field = Field {
+        shape,
+        name,
+        sizes,
+        token,
+    };
+    Ok((field, last + 1))
 }
 
 // `field { field } "}"`
-#[tactic(auto, using(crate::proofs::DefinitionExits::definitions))]
+#[tactic(auto, using(crate::proofs::Ways::no_memory))]
 fn fields(
     alloc: Global,
     lexemes: &Lexemes<'_>,
     nesting: u32,
     at: usize,
 ) -> Result<(Items<Field>, usize), Fault>
-    requires shallow { nesting ≤ NESTING }
-    ensures spells { IfOk result (λ r. AreFields lexemes.now (Some NESTING) nesting at r.0 r.1) }
-    ensures ends { IfOk result (λ r. IsBetween at r.1 lexemes.now) }
-    ensures fails { IfErr result (Fails lexemes.now (Some NESTING) (FieldSymbol nesting ∷ MoreFields nesting ∷ []) at) }
+    requires { nesting ≤ NESTING }
+    ensures { Parses lexemes.now (Several (IsField lexemes.now (Some NESTING) nesting) (AreMoreFields lexemes.now (Some NESTING) nesting) at) (FieldSymbol nesting ∷ MoreFields nesting ∷ []) at result }
 {
+    let mut fields = Vec::new(alloc);
     let (first, mut next) = field(alloc, lexemes, nesting, at)?;
-    let mut fields = Items::new(alloc);
-    fields.push(first)?;
+    put(&mut fields, first)?;
     'each: while !sees(lexemes, Sign::CloseCurly, next) {
         let (more, after) = field(alloc, lexemes, nesting, next)?;
-        fields.push(more)?;
+        put(&mut fields, more)?;
         next = after;
     }
-    Ok((fields, next + 1))
+    Ok((Items::from_vec(fields), next + 1))
 }
 
 // `[ ";" ]`
-#[tactic(auto, using(crate::proofs::DefinitionExits::definitions))]
 fn may_end(lexemes: &Lexemes<'_>, at: usize) -> usize
-    requires within { at ≤ length lexemes.now }
+    requires { at ≤ length lexemes.now }
     ensures spells { MayEnd lexemes.now at result }
     ensures ends { IsFrom at result lexemes.now }
+    ensures passes { (below : List Symbol) → Comes lexemes.now (Some NESTING) (MayEndSymbol ∷ below) at (At below result) }
 {
     if sees(lexemes, Sign::Semicolon, at) {
         return at + 1;
@@ -146,7 +132,7 @@ fn may_end(lexemes: &Lexemes<'_>, at: usize) -> usize
 }
 
 // `"struct" NAME "{" field { field } "}" [ ";" ]`, where the keyword stands.
-#[tactic(auto, using(crate::proofs::DefinitionExits::definitions))]
+#[tactic(auto, using(crate::proofs::Ways::no_memory))]
 fn structure(
     alloc: Global,
     lexemes: &Lexemes<'_>,
@@ -156,29 +142,25 @@ fn structure(
     requires shallow { nesting ≤ NESTING }
     requires sees { SeesWord lexemes.now at StructWord }
     requires within { at < length lexemes.now }
-    requires few { length lexemes.now ≤ 2 ^ 24 }
-    ensures spells { IfOk result (λ r. IsStruct lexemes.now (Some NESTING) nesting at r.0 r.1) }
-    ensures ends { IfOk result (λ r. IsBetween at r.1 lexemes.now) }
-    ensures fails { IfErr result (Fails lexemes.now (Some NESTING) (DefinitionSymbol nesting ∷ []) at) }
+    requires few { length lexemes.now ≤ TEXT_BYTES }
+    ensures { Parses lexemes.now (IsStruct lexemes.now (Some NESTING) nesting at) (DefinitionSymbol nesting ∷ []) at result }
 {
     let name = name(alloc, lexemes, at + 1)?;
-    let begin = expect(lexemes, Sign::OpenCurly, at + 2)?;
-    let (fields, next) = fields(alloc, lexemes, nesting, begin)?;
+    expect(lexemes, Sign::OpenCurly, at + 2)?;
+    let (fields, next) = fields(alloc, lexemes, nesting, at + 3)?;
     let end = may_end(lexemes, next);
     let token = at as u32 + 1;
-    Ok((
-        Struct {
-            name,
-            fields,
-            token,
-        },
-        end,
-    ))
+    let structure = Struct {
+        name,
+        fields,
+        token,
+    };
+    Ok((structure, end))
 }
 
 // `"namespace" NAME "{" { definition } "}"`, where the keyword stands.
 #[cycle(definition)]
-#[tactic(auto, using(crate::proofs::DefinitionExits::definitions))]
+#[tactic(auto, using(crate::proofs::Ways::no_memory))]
 fn namespace(
     alloc: Global,
     lexemes: &Lexemes<'_>,
@@ -188,29 +170,25 @@ fn namespace(
     requires shallow { nesting ≤ NESTING }
     requires sees { SeesWord lexemes.now at NamespaceWord }
     requires within { at < length lexemes.now }
-    requires few { length lexemes.now ≤ 2 ^ 24 }
-    ensures spells { IfOk result (λ r. IsNamespace lexemes.now (Some NESTING) nesting at r.0 r.1) }
-    ensures ends { IfOk result (λ r. IsBetween at r.1 lexemes.now) }
-    ensures fails { IfErr result (Fails lexemes.now (Some NESTING) (DefinitionSymbol nesting ∷ []) at) }
+    requires few { length lexemes.now ≤ TEXT_BYTES }
+    ensures { Parses lexemes.now (λ namespace end. IsDefinition lexemes.now (Some NESTING) nesting at (NamespaceForm namespace) end) (DefinitionSymbol nesting ∷ []) at result }
 {
     let name = name(alloc, lexemes, at + 1)?;
-    let begin = expect(lexemes, Sign::OpenCurly, at + 2)?;
-    let (definitions, next) = definitions(alloc, lexemes, nesting + 1, begin)?;
-    let end = expect(lexemes, Sign::CloseCurly, next)?;
+    expect(lexemes, Sign::OpenCurly, at + 2)?;
+    let (definitions, close) = definitions(alloc, lexemes, nesting + 1, at + 3)?;
+    expect(lexemes, Sign::CloseCurly, close)?;
     let token = at as u32 + 1;
-    Ok((
-        Namespace {
-            name,
-            definitions,
-            token,
-        },
-        end,
-    ))
+    let namespace = Namespace {
+        name,
+        definitions,
+        token,
+    };
+    Ok((namespace, close + 1))
 }
 
 // `namespace | struct | constant | function`, where one begins.
 #[cycle(definition)]
-#[tactic(auto, using(crate::proofs::DefinitionExits::definitions))]
+#[tactic(auto, using(crate::proofs::Ways::no_memory))]
 fn definition(
     alloc: Global,
     lexemes: &Lexemes<'_>,
@@ -219,9 +197,7 @@ fn definition(
 ) -> Result<(Definition, usize), Fault>
     requires shallow { nesting ≤ NESTING }
     requires begins { definition_begins (kind_at lexemes.now at) ≡ true }
-    ensures spells { IfOk result (λ r. IsDefinition lexemes.now (Some NESTING) nesting at r.0 r.1) }
-    ensures ends { IfOk result (λ r. IsBetween at r.1 lexemes.now) }
-    ensures fails { IfErr result (Fails lexemes.now (Some NESTING) (DefinitionSymbol nesting ∷ []) at) }
+    ensures { Parses lexemes.now (IsDefinition lexemes.now (Some NESTING) nesting at) (DefinitionSymbol nesting ∷ []) at result }
 {
     if sees_word(lexemes, Keyword::Namespace, at) {
         let (namespace, end) = namespace(alloc, lexemes, nesting, at)?;
@@ -241,7 +217,7 @@ fn definition(
 
 /// `{ definition }`, up to a `}` or the end of the tokens.
 #[cycle(definition)]
-#[tactic(auto, using(crate::proofs::DefinitionExits::definitions))]
+#[tactic(auto, using(crate::proofs::Ways::no_memory))]
 pub fn definitions(
     alloc: Global,
     lexemes: &Lexemes<'_>,
@@ -250,11 +226,9 @@ pub fn definitions(
 ) -> Result<(Items<Definition>, usize), Fault>
     requires shallow { nesting ≤ NESTING + 1 }
     requires within { at ≤ length lexemes.now }
-    ensures spells { IfOk result (λ r. AreDefinitions lexemes.now (Some NESTING) nesting at r.0 r.1) }
-    ensures ends { IfOk result (λ r. IsFrom at r.1 lexemes.now) }
-    ensures fails { IfErr result (Fails lexemes.now (Some NESTING) (Definitions nesting ∷ []) at) }
+    ensures { ParsesAny lexemes.now (AreDefinitions lexemes.now (Some NESTING) nesting at) (Definitions nesting ∷ []) at result }
 {
-    let mut definitions = Items::new(alloc);
+    let mut definitions = Vec::new(alloc);
     let mut next = at;
     'each: while !ends(lexemes.kind(next)) {
         if !begins_definition(lexemes.kind(next)) {
@@ -264,10 +238,10 @@ pub fn definitions(
             return Err(Fault::Depth(next));
         }
         let (definition, after) = definition(alloc, lexemes, nesting, next)?;
-        definitions.push(definition)?;
+        put(&mut definitions, definition)?;
         next = after;
     }
-    Ok((definitions, next))
+    Ok((Items::from_vec(definitions), next))
 }
 
 // Whether a token ends definitions: a `}` or the end of the tokens.

@@ -4,16 +4,11 @@
 
 pub use syntax::{SyntaxFault, parse};
 
+mod assignments;
 mod beginnings;
-mod declarations;
 mod definitions;
-mod expressions;
-mod fault;
-mod lexemes;
-mod marks;
+mod heads;
 mod modules;
-mod names;
-mod operators;
 mod parameters;
 mod statements;
 mod syntax;

@@ -1,18 +1,14 @@
 //! Parameters of functions.
 
-ghost use Rattle.std.specs.Prelude.{◌≡◌, ◌+◌, ◌<◌, ◌≤◌, ◌^◌, [], ◌∷◌, length, Some, None, IfOk, IfErr, IfSome};
+ghost use Rattle.std.specs.Prelude.{◌≡◌, ◌+◌, ◌<◌, ◌≤◌, List, [], ◌∷◌, length, Some, None, IfSome};
 ghost use Rattle.ctl_tree.specs.Lexemes.{kind_at};
 ghost use Rattle.ctl_tree.specs.Modules.{AreQualifiers, IsParameter, AreParameters, direction_of, level_of};
-ghost use Rattle.ctl_parser.specs.Machine.Symbol.{Parameter as ParameterSymbol, Parameters};
-ghost use Rattle.ctl_parser.specs.Fails.{Fails};
-ghost use Rattle.ctl_parser.specs.Lookup.{IsBetween};
+ghost use Rattle.grammar_machine.specs.Machine.{Symbol};
+ghost use Rattle.grammar_machine.specs.Machine.Symbol.{Qualifiers, Parameter as ParameterSymbol, Parameters};
+ghost use Rattle.ctl_parser_expr.specs.Parses.{Parses, Comes, At};
 
-use crate::declarations::{array_sizes, value};
-use crate::fault::Fault;
-use crate::lexemes::Lexemes;
-use crate::marks::{name, sees};
-use crate::names::shape;
-use ctl_base::limits::NESTING;
+use ctl_base::limits::{NESTING, TEXT_BYTES};
+use ctl_parser_expr::{Fault, Lexemes, array_sizes, name, put, sees, shape, value};
 use ctl_tree::{Direction, Keyword, Level, Parameter, Sign, TokenKind};
 use sqlite_items::Items;
 use std::alloc::Global;
@@ -21,7 +17,7 @@ use std::alloc::Global;
 fn direction(lexemes: &Lexemes<'_>, at: usize) -> Option<Direction>
     ensures exact { result ≡ direction_of (kind_at lexemes.now at) }
     ensures within { IfSome result (λ _. at < length lexemes.now) }
-    ensures few { length lexemes.now ≤ 2 ^ 24 }
+    ensures few { length lexemes.now ≤ TEXT_BYTES }
 {
     match lexemes.kind(at) {
         Some(TokenKind::Word(Keyword::Input)) => Some(Direction::Input),
@@ -34,7 +30,7 @@ fn direction(lexemes: &Lexemes<'_>, at: usize) -> Option<Direction>
 fn level(lexemes: &Lexemes<'_>, at: usize) -> Option<Level>
     ensures exact { result ≡ level_of (kind_at lexemes.now at) }
     ensures within { IfSome result (λ _. at < length lexemes.now) }
-    ensures few { length lexemes.now ≤ 2 ^ 24 }
+    ensures few { length lexemes.now ≤ TEXT_BYTES }
 {
     match lexemes.kind(at) {
         Some(TokenKind::Word(Keyword::Uniform)) => Some(Level::Uniform),
@@ -44,10 +40,10 @@ fn level(lexemes: &Lexemes<'_>, at: usize) -> Option<Level>
 }
 
 // `[ io ] [ level ] | level io`
-#[tactic(auto, using(crate::proofs::ParameterExits::parameters))]
 fn qualifiers(lexemes: &Lexemes<'_>, at: usize) -> (Option<Direction>, Option<Level>, usize)
     ensures spells { AreQualifiers lexemes.now at result.0 result.1 result.2 }
     ensures ends { at ≤ result.2 }
+    ensures passes { (below : List Symbol) → Comes lexemes.now (Some NESTING) (Qualifiers ∷ below) at (At below result.2) }
 {
     if let Some(direction) = direction(lexemes, at) {
         if let Some(level) = level(lexemes, at + 1) {
@@ -65,17 +61,15 @@ fn qualifiers(lexemes: &Lexemes<'_>, at: usize) -> (Option<Direction>, Option<Le
 }
 
 // `quals shape NAME { "[" [ expr ] "]" } [ "=" init ]`
-#[tactic(auto, using(crate::proofs::ParameterExits::parameters))]
+#[tactic(auto, using(crate::proofs::Ways::no_memory))]
 fn parameter(
     alloc: Global,
     lexemes: &Lexemes<'_>,
     nesting: u32,
     at: usize,
 ) -> Result<(Parameter, usize), Fault>
-    requires shallow { nesting ≤ NESTING }
-    ensures spells { IfOk result (λ r. IsParameter lexemes.now (Some NESTING) nesting at r.0 r.1) }
-    ensures ends { IfOk result (λ r. IsBetween at r.1 lexemes.now) }
-    ensures fails { IfErr result (Fails lexemes.now (Some NESTING) (ParameterSymbol nesting ∷ []) at) }
+    requires { nesting ≤ NESTING }
+    ensures { Parses lexemes.now (IsParameter lexemes.now (Some NESTING) nesting at) (ParameterSymbol nesting ∷ []) at result }
 {
     let (direction, level, begin) = qualifiers(lexemes, at);
     let (shape, place) = shape(alloc, lexemes, begin)?;
@@ -83,46 +77,42 @@ fn parameter(
     let (sizes, next) = array_sizes(alloc, lexemes, nesting, place + 1)?;
     let (value, end) = value(alloc, lexemes, nesting, nesting, next)?;
     let token = place as u32;
-    Ok((
-        Parameter {
-            direction,
-            level,
-            shape,
-            name,
-            sizes,
-            value,
-            token,
-        },
-        end,
-    ))
+    let parameter = Parameter {
+        direction,
+        level,
+        shape,
+        name,
+        sizes,
+        value,
+        token,
+    };
+    Ok((parameter, end))
 }
 
 /// `[ param { "," param } ] ")"`
-#[tactic(auto, using(crate::proofs::ParameterExits::parameters))]
+#[tactic(auto, using(crate::proofs::Ways::no_memory))]
 pub fn parameters(
     alloc: Global,
     lexemes: &Lexemes<'_>,
     nesting: u32,
     at: usize,
 ) -> Result<(Items<Parameter>, usize), Fault>
-    requires shallow { nesting ≤ NESTING }
-    ensures spells { IfOk result (λ r. AreParameters lexemes.now (Some NESTING) nesting at r.0 r.1) }
-    ensures ends { IfOk result (λ r. IsBetween at r.1 lexemes.now) }
-    ensures fails { IfErr result (Fails lexemes.now (Some NESTING) (Parameters nesting ∷ []) at) }
+    requires { nesting ≤ NESTING }
+    ensures { Parses lexemes.now (AreParameters lexemes.now (Some NESTING) nesting at) (Parameters nesting ∷ []) at result }
 {
-    let mut parameters = Items::new(alloc);
     if sees(lexemes, Sign::CloseRound, at) {
-        return Ok((parameters, at + 1));
+        return Ok((Items::new(alloc), at + 1));
     }
     let (first, mut next) = parameter(alloc, lexemes, nesting, at)?;
-    parameters.push(first)?;
+    let mut parameters = Vec::new(alloc);
+    put(&mut parameters, first)?;
     'each: while sees(lexemes, Sign::Comma, next) {
         let (more, after) = parameter(alloc, lexemes, nesting, next + 1)?;
-        parameters.push(more)?;
+        put(&mut parameters, more)?;
         next = after;
     }
     if !sees(lexemes, Sign::CloseRound, next) {
         return Err(Fault::NotHere(next));
     }
-    Ok((parameters, next + 1))
+    Ok((Items::from_vec(parameters), next + 1))
 }

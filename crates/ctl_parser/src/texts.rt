@@ -1,14 +1,14 @@
 //! What texts in quotes stand for.
 
 ghost use Rattle.std.specs.Prelude.{◌≡◌, ◌-◌, length, take, drop, IfOk};
-ghost use Rattle.ctl_tree.specs.Texts.{escaped as escaped_byte, text_bytes};
+ghost use Rattle.ctl_tree.specs.Texts.{escaped as escaped_byte, unquoted};
 
 use ctl_base::{ByteText, Memory};
 use std::alloc::Global;
 
 /// The bytes that a text with its quotes stands for.
 pub fn text_of(alloc: Global, bytes: &[u8]) -> Result<ByteText, Memory>
-    ensures { IfOk result (λ t. t ≡ text_bytes bytes.now) }
+    ensures { IfOk result (λ t. t ≡ unquoted bytes.now) }
 {
     let inside = between_quotes(bytes);
     let mut text = Vec::new(alloc);

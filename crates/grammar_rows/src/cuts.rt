@@ -41,26 +41,22 @@ fn unlike_cut(alloc: Global, cut: &Cut) -> Result<String, Memory> {
     Ok(String::new(alloc))
 }
 
-fn first_unlike_cut(alloc: Global, cuts: &[Cut]) -> Result<String, Memory> {
-    for cut in cuts {
-        let unlike = unlike_cut(alloc, cut)?;
-        if !unlike.is_empty() {
-            return Ok(unlike);
+fn first_unlike_cut(alloc: Global, tables: &[&'static [Cut]]) -> Result<String, Memory> {
+    for cuts in tables {
+        for cut in cuts.iter() {
+            let unlike = unlike_cut(alloc, cut)?;
+            if !unlike.is_empty() {
+                return Ok(unlike);
+            }
         }
     }
     Ok(String::new(alloc))
 }
 
 #[test]
-fn first_texts_are_cut_before_each_token(rt: HostRuntime) -> Result<(), Memory> {
-    let unlike = first_unlike_cut(rt.alloc(), &FIRST_CUTS)?;
-    assert_eq!(rt; unlike.as_str(), "");
-    Ok(())
-}
-
-#[test]
-fn second_texts_are_cut_before_each_token(rt: HostRuntime) -> Result<(), Memory> {
-    let unlike = first_unlike_cut(rt.alloc(), &SECOND_CUTS)?;
+fn texts_are_cut_before_each_token(rt: HostRuntime) -> Result<(), Memory> {
+    let tables: [&'static [Cut]; 2] = [&FIRST_CUTS, &SECOND_CUTS];
+    let unlike = first_unlike_cut(rt.alloc(), &tables)?;
     assert_eq!(rt; unlike.as_str(), "");
     Ok(())
 }

@@ -40,54 +40,29 @@ fn unlike_follow(alloc: Global, follow: &Follow) -> Result<String, Memory> {
     Ok(String::new(alloc))
 }
 
-fn first_unlike_follow(alloc: Global, follows: &[Follow]) -> Result<String, Memory> {
-    for follow in follows {
-        let unlike = unlike_follow(alloc, follow)?;
-        if !unlike.is_empty() {
-            return Ok(unlike);
+fn first_unlike_follow(alloc: Global, tables: &[&'static [Follow]]) -> Result<String, Memory> {
+    for follows in tables {
+        for follow in follows.iter() {
+            let unlike = unlike_follow(alloc, follow)?;
+            if !unlike.is_empty() {
+                return Ok(unlike);
+            }
         }
     }
     Ok(String::new(alloc))
 }
 
 #[test]
-fn first_beginnings_go_on(rt: HostRuntime) -> Result<(), Memory> {
-    let unlike = first_unlike_follow(rt.alloc(), &FIRST_FOLLOWS)?;
-    assert_eq!(rt; unlike.as_str(), "");
-    Ok(())
-}
-
-#[test]
-fn second_beginnings_go_on(rt: HostRuntime) -> Result<(), Memory> {
-    let unlike = first_unlike_follow(rt.alloc(), &SECOND_FOLLOWS)?;
-    assert_eq!(rt; unlike.as_str(), "");
-    Ok(())
-}
-
-#[test]
-fn third_beginnings_go_on(rt: HostRuntime) -> Result<(), Memory> {
-    let unlike = first_unlike_follow(rt.alloc(), &THIRD_FOLLOWS)?;
-    assert_eq!(rt; unlike.as_str(), "");
-    Ok(())
-}
-
-#[test]
-fn fourth_beginnings_go_on(rt: HostRuntime) -> Result<(), Memory> {
-    let unlike = first_unlike_follow(rt.alloc(), &FOURTH_FOLLOWS)?;
-    assert_eq!(rt; unlike.as_str(), "");
-    Ok(())
-}
-
-#[test]
-fn fifth_beginnings_go_on(rt: HostRuntime) -> Result<(), Memory> {
-    let unlike = first_unlike_follow(rt.alloc(), &FIFTH_FOLLOWS)?;
-    assert_eq!(rt; unlike.as_str(), "");
-    Ok(())
-}
-
-#[test]
-fn sixth_beginnings_go_on(rt: HostRuntime) -> Result<(), Memory> {
-    let unlike = first_unlike_follow(rt.alloc(), &SIXTH_FOLLOWS)?;
+fn beginnings_go_on(rt: HostRuntime) -> Result<(), Memory> {
+    let tables: [&'static [Follow]; 6] = [
+        &FIRST_FOLLOWS,
+        &SECOND_FOLLOWS,
+        &THIRD_FOLLOWS,
+        &FOURTH_FOLLOWS,
+        &FIFTH_FOLLOWS,
+        &SIXTH_FOLLOWS,
+    ];
+    let unlike = first_unlike_follow(rt.alloc(), &tables)?;
     assert_eq!(rt; unlike.as_str(), "");
     Ok(())
 }

@@ -68,33 +68,29 @@ fn unlike_limit(alloc: Global, way: &Way, limit: &Limit) -> Result<String, Memor
     Ok(String::new(alloc))
 }
 
-fn first_unlike_limit(alloc: Global, ways: &[Way], limits: &[Limit]) -> Result<String, Memory> {
-    for (way, limit) in ways.iter().zip(limits) {
-        let unlike = unlike_limit(alloc, way, limit)?;
-        if !unlike.is_empty() {
-            return Ok(unlike);
+fn first_unlike_limit(
+    alloc: Global,
+    tables: &[(&'static [Way], &'static [Limit])],
+) -> Result<String, Memory> {
+    for (ways, limits) in tables {
+        for (way, limit) in ways.iter().zip(limits.iter()) {
+            let unlike = unlike_limit(alloc, way, limit)?;
+            if !unlike.is_empty() {
+                return Ok(unlike);
+            }
         }
     }
     Ok(String::new(alloc))
 }
 
 #[test]
-fn first_ways_end_at_the_limit(rt: HostRuntime) -> Result<(), Memory> {
-    let unlike = first_unlike_limit(rt.alloc(), &FIRST_WAYS, &FIRST_LIMITS)?;
-    assert_eq!(rt; unlike.as_str(), "");
-    Ok(())
-}
-
-#[test]
-fn second_ways_end_at_the_limit(rt: HostRuntime) -> Result<(), Memory> {
-    let unlike = first_unlike_limit(rt.alloc(), &SECOND_WAYS, &SECOND_LIMITS)?;
-    assert_eq!(rt; unlike.as_str(), "");
-    Ok(())
-}
-
-#[test]
-fn third_ways_end_at_the_limit(rt: HostRuntime) -> Result<(), Memory> {
-    let unlike = first_unlike_limit(rt.alloc(), &THIRD_WAYS, &THIRD_LIMITS)?;
+fn ways_end_at_the_limit(rt: HostRuntime) -> Result<(), Memory> {
+    let tables: [(&'static [Way], &'static [Limit]); 3] = [
+        (&FIRST_WAYS, &FIRST_LIMITS),
+        (&SECOND_WAYS, &SECOND_LIMITS),
+        (&THIRD_WAYS, &THIRD_LIMITS),
+    ];
+    let unlike = first_unlike_limit(rt.alloc(), &tables)?;
     assert_eq!(rt; unlike.as_str(), "");
     Ok(())
 }

@@ -107,11 +107,13 @@ fn unlike_way(alloc: Global, way: &Way) -> Result<String, Memory> {
     Ok(format!(in alloc; "{text} is {told} and not too deep at {place}")?)
 }
 
-fn first_unlike_way(alloc: Global, ways: &[Way]) -> Result<String, Memory> {
-    for way in ways {
-        let unlike = unlike_way(alloc, way)?;
-        if !unlike.is_empty() {
-            return Ok(unlike);
+fn first_unlike_way(alloc: Global, tables: &[&'static [Way]]) -> Result<String, Memory> {
+    for ways in tables {
+        for way in ways.iter() {
+            let unlike = unlike_way(alloc, way)?;
+            if !unlike.is_empty() {
+                return Ok(unlike);
+            }
         }
     }
     Ok(String::new(alloc))
@@ -132,102 +134,41 @@ fn unlike_in_namespaces(
 
 fn first_unlike_in_namespaces(
     alloc: Global,
-    rows: &[Told],
-    nested: &[Nested],
+    tables: &[(&'static [Told], &'static [Nested])],
 ) -> Result<String, Memory> {
-    for (row, nested) in rows.iter().zip(nested) {
-        let unlike = unlike_in_namespaces(alloc, row.0, nested)?;
-        if !unlike.is_empty() {
-            return Ok(unlike);
+    for (rows, nested) in tables {
+        for (row, nested) in rows.iter().zip(nested.iter()) {
+            let unlike = unlike_in_namespaces(alloc, row.0, nested)?;
+            if !unlike.is_empty() {
+                return Ok(unlike);
+            }
         }
     }
     Ok(String::new(alloc))
 }
 
 #[test]
-fn first_ways_reach_the_limit(rt: HostRuntime) -> Result<(), Memory> {
-    let unlike = first_unlike_way(rt.alloc(), &FIRST_WAYS)?;
+fn ways_reach_the_limit(rt: HostRuntime) -> Result<(), Memory> {
+    let tables: [&'static [Way]; 3] = [&FIRST_WAYS, &SECOND_WAYS, &THIRD_WAYS];
+    let unlike = first_unlike_way(rt.alloc(), &tables)?;
     assert_eq!(rt; unlike.as_str(), "");
     Ok(())
 }
 
 #[test]
-fn second_ways_reach_the_limit(rt: HostRuntime) -> Result<(), Memory> {
-    let unlike = first_unlike_way(rt.alloc(), &SECOND_WAYS)?;
-    assert_eq!(rt; unlike.as_str(), "");
-    Ok(())
-}
-
-#[test]
-fn third_ways_reach_the_limit(rt: HostRuntime) -> Result<(), Memory> {
-    let unlike = first_unlike_way(rt.alloc(), &THIRD_WAYS)?;
-    assert_eq!(rt; unlike.as_str(), "");
-    Ok(())
-}
-
-#[test]
-fn definitions_reach_the_limit(rt: HostRuntime) -> Result<(), Memory> {
-    let unlike = first_unlike_in_namespaces(rt.alloc(), &DEFINITIONS, &DEFINITIONS_NESTED)?;
-    assert_eq!(rt; unlike.as_str(), "");
-    Ok(())
-}
-
-#[test]
-fn constants_reach_the_limit(rt: HostRuntime) -> Result<(), Memory> {
-    let unlike = first_unlike_in_namespaces(rt.alloc(), &CONSTANTS, &CONSTANTS_NESTED)?;
-    assert_eq!(rt; unlike.as_str(), "");
-    Ok(())
-}
-
-#[test]
-fn parameters_reach_the_limit(rt: HostRuntime) -> Result<(), Memory> {
-    let unlike = first_unlike_in_namespaces(rt.alloc(), &PARAMETERS, &PARAMETERS_NESTED)?;
-    assert_eq!(rt; unlike.as_str(), "");
-    Ok(())
-}
-
-#[test]
-fn operators_reach_the_limit(rt: HostRuntime) -> Result<(), Memory> {
-    let unlike = first_unlike_in_namespaces(rt.alloc(), &OPERATORS, &OPERATORS_NESTED)?;
-    assert_eq!(rt; unlike.as_str(), "");
-    Ok(())
-}
-
-#[test]
-fn levels_reach_the_limit(rt: HostRuntime) -> Result<(), Memory> {
-    let unlike = first_unlike_in_namespaces(rt.alloc(), &LEVELS, &LEVELS_NESTED)?;
-    assert_eq!(rt; unlike.as_str(), "");
-    Ok(())
-}
-
-#[test]
-fn steps_and_calls_reach_the_limit(rt: HostRuntime) -> Result<(), Memory> {
-    let unlike = first_unlike_in_namespaces(rt.alloc(), &STEPS_AND_CALLS, &STEPS_AND_CALLS_NESTED)?;
-    assert_eq!(rt; unlike.as_str(), "");
-    Ok(())
-}
-
-#[test]
-fn simple_statements_reach_the_limit(rt: HostRuntime) -> Result<(), Memory> {
-    let unlike = first_unlike_in_namespaces(
-        rt.alloc(),
-        &SIMPLE_STATEMENTS,
-        &SIMPLE_STATEMENTS_NESTED,
-    )?;
-    assert_eq!(rt; unlike.as_str(), "");
-    Ok(())
-}
-
-#[test]
-fn branches_reach_the_limit(rt: HostRuntime) -> Result<(), Memory> {
-    let unlike = first_unlike_in_namespaces(rt.alloc(), &BRANCHES, &BRANCHES_NESTED)?;
-    assert_eq!(rt; unlike.as_str(), "");
-    Ok(())
-}
-
-#[test]
-fn loops_reach_the_limit(rt: HostRuntime) -> Result<(), Memory> {
-    let unlike = first_unlike_in_namespaces(rt.alloc(), &LOOPS, &LOOPS_NESTED)?;
+fn definitions_in_namespaces_reach_the_limit(rt: HostRuntime) -> Result<(), Memory> {
+    let tables: [(&'static [Told], &'static [Nested]); 9] = [
+        (&DEFINITIONS, &DEFINITIONS_NESTED),
+        (&CONSTANTS, &CONSTANTS_NESTED),
+        (&PARAMETERS, &PARAMETERS_NESTED),
+        (&OPERATORS, &OPERATORS_NESTED),
+        (&LEVELS, &LEVELS_NESTED),
+        (&STEPS_AND_CALLS, &STEPS_AND_CALLS_NESTED),
+        (&SIMPLE_STATEMENTS, &SIMPLE_STATEMENTS_NESTED),
+        (&BRANCHES, &BRANCHES_NESTED),
+        (&LOOPS, &LOOPS_NESTED),
+    ];
+    let unlike = first_unlike_in_namespaces(rt.alloc(), &tables)?;
     assert_eq!(rt; unlike.as_str(), "");
     Ok(())
 }

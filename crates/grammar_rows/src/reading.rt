@@ -65,24 +65,28 @@ fn unlike(alloc: Global, text: &str, wanted: &str) -> Result<String, Memory> {
     Ok(format!(in alloc; "{text} is {told} and not {wanted}")?)
 }
 
-/// What is told of the first text of which something else is told than the table says, if any.
-pub fn first_unlike(alloc: Global, rows: &[Told]) -> Result<String, Memory> {
-    for (text, wanted) in rows {
-        let unlike = unlike(alloc, text, wanted)?;
-        if !unlike.is_empty() {
-            return Ok(unlike);
+/// What is told of the first text of which something else is told than the tables say, if any.
+pub fn first_unlike(alloc: Global, tables: &[&'static [Told]]) -> Result<String, Memory> {
+    for rows in tables {
+        for (text, wanted) in rows.iter() {
+            let unlike = unlike(alloc, text, wanted)?;
+            if !unlike.is_empty() {
+                return Ok(unlike);
+            }
         }
     }
     Ok(String::new(alloc))
 }
 
 /// The same of texts with a token that no module goes on with.
-pub fn first_not_refused(alloc: Global, rows: &[Refused]) -> Result<String, Memory> {
-    for (text, at, line) in rows {
-        let wanted = fault(alloc, SyntaxKind::NotHere, *at, *line)?;
-        let unlike = unlike(alloc, text, wanted.as_str())?;
-        if !unlike.is_empty() {
-            return Ok(unlike);
+pub fn first_not_refused(alloc: Global, tables: &[&'static [Refused]]) -> Result<String, Memory> {
+    for rows in tables {
+        for (text, at, line) in rows.iter() {
+            let wanted = fault(alloc, SyntaxKind::NotHere, *at, *line)?;
+            let unlike = unlike(alloc, text, wanted.as_str())?;
+            if !unlike.is_empty() {
+                return Ok(unlike);
+            }
         }
     }
     Ok(String::new(alloc))

@@ -8,7 +8,7 @@ use ctl_tree::{
     Arm, ArraySize, Assignment, Block, BraceList, Call, Chain, Constant, Definition, Direction,
     Expr, Field, For, ForStart, Function, If, Import, Initialiser, Level, Link, Literal,
     LiteralValue, Module, Operator, Parameter, Path, Place, PrintItem, QualifiedName, ShapeKind,
-    ShapeName, SizeExpr, SizedShape, Statement, Step, Unary, UnaryOperator, Variable,
+    ShapeName, SizedShape, Statement, Step, Unary, UnaryOperator, Variable,
 };
 use std::alloc::Global;
 use std::fmt::Write;
@@ -71,14 +71,14 @@ fn put_text(out: &mut String, text: &ByteText) -> Result<(), Memory> {
 fn put_qualified_name(out: &mut String, name: &QualifiedName) -> Result<(), Memory> {
     open(out, "name", name.token)?;
     out.push_str(" ")?;
-    let mut joins = name.is_global;
-    for part in name.names.as_slice() {
-        if joins {
-            out.push_str("::")?;
-        }
-        put_bytes(out, part)?;
-        joins = true;
+    if name.is_global {
+        out.push_str("::")?;
     }
+    for space in name.spaces.as_slice() {
+        put_bytes(out, space)?;
+        out.push_str("::")?;
+    }
+    put_bytes(out, &name.name)?;
     close(out)
 }
 
@@ -136,7 +136,7 @@ fn put_expr(out: &mut String, expr: &Expr) -> Result<(), Memory> {
     match expr {
         Expr::Literal(literal) => put_literal(out, literal),
         Expr::Name(name) => put_qualified_name(out, name),
-        Expr::Call(call) => put_call(out, call),
+        Expr::Call(call) => put_call(out, call.get()),
         Expr::Path(path) => put_path(out, path),
         Expr::Unary(unary) => put_unary(out, unary),
         Expr::Chain(chain) => put_chain(out, chain),
@@ -212,7 +212,7 @@ fn put_shape(out: &mut String, shape: &ShapeName) -> Result<(), Memory> {
         ShapeKind::Float => open(out, "float", token)?,
         ShapeKind::Named(name) => {
             open(out, "named", token)?;
-            put_qualified_name(out, name)?;
+            put_qualified_name(out, name.get())?;
         }
     }
     close(out)
@@ -224,15 +224,6 @@ fn put_sizes(out: &mut String, sizes: &[ArraySize]) -> Result<(), Memory> {
         if let Some(size) = &size.size {
             put_expr(out, size)?;
         }
-        close(out)?;
-    }
-    Ok(())
-}
-
-fn put_stated_sizes(out: &mut String, sizes: &[SizeExpr]) -> Result<(), Memory> {
-    for size in sizes {
-        open(out, "size", size.token)?;
-        put_expr(out, &size.size)?;
         close(out)?;
     }
     Ok(())
@@ -320,18 +311,20 @@ fn put_start(out: &mut String, start: &ForStart) -> Result<(), Memory> {
 fn put_statement(out: &mut String, statement: &Statement) -> Result<(), Memory> {
     match statement {
         Statement::Block(block) => return put_block(out, block),
-        Statement::Constant(constant) => return put_constant(out, constant),
-        Statement::Variable(variable) => return put_variable(out, variable),
-        Statement::Assignment(assignment) => return put_assignment(out, assignment),
-        Statement::Call(call) => return put_call(out, call),
+        Statement::Constant(constant) => return put_constant(out, constant.get()),
+        Statement::Variable(variable) => return put_variable(out, variable.get()),
+        Statement::Assignment(assignment) => return put_assignment(out, assignment.get()),
+        Statement::Call(call) => return put_call(out, call.get()),
         Statement::If(choice) => return put_if(out, choice),
-        Statement::For(turns) => return put_for(out, turns),
+        Statement::For(turns) => return put_for(out, turns.get()),
         Statement::While(turns) => {
+            let turns = turns.get();
             open(out, "while", turns.token)?;
             put_expr(out, &turns.test)?;
-            put_statement(out, turns.body.get())?;
+            put_statement(out, &turns.body)?;
         }
         Statement::Return(end) => {
+            let end = end.get();
             open(out, "return", end.token)?;
             if let Some(value) = &end.value {
                 put_expr(out, value)?;
@@ -373,7 +366,7 @@ fn put_if(out: &mut String, choice: &If) -> Result<(), Memory> {
 fn put_arm(out: &mut String, arm: &Arm) -> Result<(), Memory> {
     out.push_str(" (arm")?;
     put_expr(out, &arm.test)?;
-    put_statement(out, &arm.body)?;
+    put_statement(out, arm.body.get())?;
     close(out)
 }
 
@@ -383,7 +376,7 @@ fn put_for(out: &mut String, turns: &For) -> Result<(), Memory> {
     put_start(out, &turns.start)?;
     put_expr(out, &turns.test)?;
     put_assignment(out, &turns.next)?;
-    put_statement(out, turns.body.get())?;
+    put_statement(out, &turns.body)?;
     close(out)
 }
 
@@ -411,7 +404,7 @@ fn put_parameter(out: &mut String, parameter: &Parameter) -> Result<(), Memory> 
 fn put_result(out: &mut String, result_shape: &SizedShape) -> Result<(), Memory> {
     out.push_str(" (result")?;
     put_shape(out, &result_shape.shape)?;
-    put_stated_sizes(out, result_shape.sizes.as_slice())?;
+    put_sizes(out, result_shape.sizes.as_slice())?;
     close(out)
 }
 
@@ -433,7 +426,7 @@ fn put_field(out: &mut String, field: &Field) -> Result<(), Memory> {
     open(out, "field", field.token)?;
     put_shape(out, &field.shape)?;
     put_name(out, &field.name)?;
-    put_stated_sizes(out, field.sizes.as_slice())?;
+    put_sizes(out, field.sizes.as_slice())?;
     close(out)
 }
 

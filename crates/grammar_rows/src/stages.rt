@@ -1,5 +1,5 @@
 //! The three texts that a chain of the product is made of.
-//! `python3 tools/grammar_cases.py stages` prints them.
+//! Printed by tools/grammar_rows_tables.py.
 
 use crate::reading::Told;
 

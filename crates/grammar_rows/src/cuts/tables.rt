@@ -1,5 +1,5 @@
 //! Texts, and after how many of their first tokens a module ends, the whole left out.
-//! `python3 tools/grammar_cases.py cuts/tables` prints them.
+//! Printed by tools/grammar_rows_tables.py.
 
 use crate::cuts::Cut;
 

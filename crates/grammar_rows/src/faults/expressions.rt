@@ -1,5 +1,5 @@
 //! Texts that spell no module, with the token and the line of the fault.
-//! `python3 tools/grammar_cases.py faults/expressions` prints them.
+//! Printed by tools/grammar_rows_tables.py.
 
 use crate::reading::Refused;
 

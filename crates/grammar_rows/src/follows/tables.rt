@@ -1,5 +1,5 @@
 //! Beginnings of modules, how many tokens they have, and which tokens can follow.
-//! `python3 tools/grammar_cases.py follows/tables` prints them.
+//! Printed by tools/grammar_rows_tables.py.
 
 use crate::follows::Follow;
 

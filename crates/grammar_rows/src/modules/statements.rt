@@ -1,5 +1,5 @@
 //! Modules with their spellings.
-//! `python3 tools/grammar_cases.py modules/statements` prints them.
+//! Printed by tools/grammar_rows_tables.py.
 
 use crate::reading::{Nested, Told};
 

@@ -1,5 +1,5 @@
 //! Ways in which forms stand in forms.
-//! `python3 tools/grammar_cases.py nested/tables` prints them.
+//! Printed by tools/grammar_rows_tables.py.
 
 use crate::limits::Limit;
 use crate::nested::Way;

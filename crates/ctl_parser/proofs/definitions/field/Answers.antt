@@ -1,15 +1,27 @@
-use Rattle.std.proofs.Common.{rules, Some, [], ◌∷◌}
-use Rattle.ctl_base.specs.declared.limits.TheConstants.{NESTING}
-use Rattle.ctl_tree.specs.declared.sign.Sign.TheVariants.{Semicolon}
-use Rattle.ctl_parser.specs.declared.fault.Fault.{Fault}
-use Rattle.ctl_parser.specs.Machine.{TheSign, Field}
-use Rattle.ctl_parser.specs.Fails.{Fails}
-use Rattle.ctl_parser.proofs.DefinitionExits.{in_field_end}
+use Rattle.std.proofs.Common.{arith, refl}
+use Rattle.ctl_tree.specs.Modules.{field_of}
+use Rattle.ctl_parser.proofs.Ways.{done, pass, expand, sign, word, refused}
 use Rattle.ctl_parser.proofs.definitions.field.Goals as goal
 
-pub returns-in_err-end-clause-fails : goal.returns-in_err-end-clause-fails
-returns-in_err-end-clause-fails c =
-    let carry : (fault : Fault) → Fails c.args.lexemes.now (Some NESTING) (TheSign Semicolon ∷ []) c.in_ok-sizes.next fault
-    → Fails c.args.lexemes.now (Some NESTING) (Field c.args.nesting ∷ []) c.args.at fault =
-    λ fault f. in_field_end _ _ _ _ _ _ _ _ _ fault c.in_ok-shape.ensures.spells c.in_ok-name.ensures.sees.0 c.in_ok-sizes.ensures.spells f in
-    search (rules, carry)
+pub returns-in_err-shape : goal.returns-in_err-shape
+returns-in_err-shape c = refused c.from_residual.ensures.1 (λ below. expand refl (c.in_err-shape.ensures.follows _))
+
+pub returns-in_err-name : goal.returns-in_err-name
+returns-in_err-name c = refused c.from_residual-in_err-name.ensures.1 (λ below. expand refl (pass c.in_ok-shape.ensures.follows (c.in_err-name.ensures.fails _)))
+
+pub returns-in_err-sizes : goal.returns-in_err-sizes
+returns-in_err-sizes c = refused c.from_residual-in_err-sizes.ensures.1 (λ below. expand refl (pass c.in_ok-shape.ensures.follows (word c.in_ok-name.ensures.sees.0 refl (c.in_err-sizes.ensures.follows _))))
+
+pub returns-in_err-expect : goal.returns-in_err-expect
+returns-in_err-expect c =
+    refused c.from_residual-in_err-expect.ensures.1
+    (λ below. expand refl (pass c.in_ok-shape.ensures.follows (word c.in_ok-name.ensures.sees.0 refl (pass c.in_ok-sizes.ensures.follows (c.in_err-expect.ensures.fails _)))))
+
+pub returns : goal.returns
+returns c = record {
+  reads = (
+    field_of _ _ c.in_ok-shape.ensures.reads.0 c.in_ok-name.ensures.sees.0 c.in_ok-sizes.ensures.reads.0 c.in_ok-expect.ensures.sees.0 refl,
+    (omega (arith, c.in_ok-shape.ensures.reads.1.0, c.in_ok-sizes.ensures.reads.1.0), omega (arith, c.in_ok-expect.ensures.sees.1), c.in_ok-expect.ensures.sees.2),
+  );
+  follows = λ below. expand refl (pass c.in_ok-shape.ensures.follows (word c.in_ok-name.ensures.sees.0 refl (pass c.in_ok-sizes.ensures.follows (sign refl c.in_ok-expect.ensures.sees.0 refl (done refl)))));
+}

@@ -1,30 +1,39 @@
-use Rattle.std.proofs.Common.{◌+◌, [], ◌∷◌, ◌++◌, arith, ap, ◌∙◌, append_assoc, append-nil, subst, refl, Some}
-use Rattle.ctl_base.specs.declared.limits.TheConstants.{NESTING}
-use Rattle.ctl_tree.specs.Modules.{fields_end, more_fields}
-use Rattle.ctl_parser.specs.Groups.{AreFields}
-use Rattle.ctl_parser.proofs.DefinitionExits.{first_field_passed, one_more_field}
+use Rattle.std.proofs.Common.{arith, ◌+◌, [], refl, ap, sym, append_assoc, append-nil}
+use Rattle.ctl_tree.specs.Modules.{fields_end, more_fields as more_form}
+use Rattle.grammar_machine.specs.Machine.{more_fields_move}
+use Rattle.ctl_parser.specs.PrivateParts.{several}
+use Rattle.ctl_parser.proofs.MovesOfDefinitions.{more_fields}
+use Rattle.ctl_parser.proofs.Ways.{done, on, pass, read, expand, refused}
 use Rattle.ctl_parser.proofs.definitions.fields.Goals as goal
+
+pub returns-in_err-first : goal.returns-in_err-first
+returns-in_err-first c = refused c.from_residual.ensures.1 (λ below. c.in_err-first.ensures.follows _)
 
 pub each-init : goal.each-init
 each-init c = record {
-  spelled = λ more after are.
-      (c.in_ok-first.first, more, c.in_ok-first.next, ap (λ fs. fs ++ more) (c.in_ok-push.ensures.ok ∙ ap (λ fs. fs ++ c.in_ok-first.first ∷ []) c.new-fields.ensures), c.in_ok-first.ensures.spells, are);
-  passed = first_field_passed _ _ _ _ _ _ c.in_ok-first.ensures.spells;
-  from = omega (arith, c.in_ok-first.ensures.ends);
-  within = omega (arith, c.in_ok-first.ensures.ends);
+  spelled = λ more after are. rw (c.in_ok-put.ensures, c.new-fields.ensures.items) (several _ c.in_ok-first.ensures.reads.0 are);
+  passed = λ below. pass c.in_ok-first.ensures.follows (done refl);
+  between = c.in_ok-first.ensures.reads.1;
 }
+
+pub returns-in_err-more : goal.returns-in_err-more
+returns-in_err-more c =
+    refused c.from_residual-in_err-more.ensures.1 (λ below. on (c.each.invariant.passed below) (expand (more_fields _ _ c.each-test.ensures.told) (c.in_err-more.ensures.follows _)))
 
 pub each-preserved : goal.each-preserved
-each-preserved c = record {
-  spelled = λ more after are.
-      rw (c.in_ok-push-2.ensures.ok, append_assoc) (c.each.invariant.spelled (c.in_ok-more.more ∷ more) after
-      (more_fields c.in_ok-more.after c.each-test.ensures.told c.in_ok-more.ensures.spells are));
-  passed = one_more_field _ _ _ _ _ _ _ c.each.invariant.passed c.each-test.ensures.told c.in_ok-more.ensures.spells;
-  from = omega (arith, c.each.invariant.from, c.in_ok-more.ensures.ends);
-  within = omega (arith, c.in_ok-more.ensures.ends);
-}
+each-preserved c =
+    let ends = c.in_ok-more.ensures.reads.1 in
+    record {
+      spelled = λ more after are. rw (c.in_ok-put-2.ensures, append_assoc) (c.each.invariant.spelled _ after (more_form _ c.each-test.ensures.told c.in_ok-more.ensures.reads.0 are));
+      passed = λ below. on (c.each.invariant.passed below) (expand (more_fields _ _ c.each-test.ensures.told) (pass c.in_ok-more.ensures.follows (done refl)));
+      between = (omega (arith, c.each.invariant.between.0, ends.0), ends.1, ends.2);
+    }
 
-pub returns-clause-spells : goal.returns-clause-spells
-returns-clause-spells c =
-    subst (λ fs. AreFields c.args.lexemes.now (Some NESTING) c.args.nesting c.args.at fs (c.each.next + 1)) (append-nil c.each.fields)
-    (c.each.invariant.spelled [] (c.each.next + 1) (fields_end c.each-test.ensures.told.0 refl))
+pub returns : goal.returns
+returns c = record {
+  reads = (
+    rw (c.from_vec.ensures, sym (append-nil c.each.fields.items)) (c.each.invariant.spelled [] (c.each.next + 1) (fields_end c.each-test.ensures.told.0 refl)),
+    (omega (arith, c.each.invariant.between.0), omega (arith, c.each-test.ensures.told.1), c.each.invariant.between.2),
+  );
+  follows = λ below. on (c.each.invariant.passed below) (read (ap (more_fields_move _) c.each-test.ensures.told.0) refl (done refl));
+}

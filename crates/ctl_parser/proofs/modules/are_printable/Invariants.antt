@@ -3,5 +3,5 @@ use Rattle.ctl_tree.specs.Modules.{IsPrintable}
 use Rattle.ctl_parser.proofs.modules.are_printable.Given as goal
 
 -- the bytes so far are printable
-abbrev pub invariant-loop-byte : goal.invariant-loop-byte
-invariant-loop-byte l = (k : ℕ) → k < l.byte-index → IsPrintable (get_or l.bytes k 0)
+abbrev pub invariant-each : goal.invariant-each
+invariant-each l = (k : ℕ) → k < l.byte-index → IsPrintable (get_or l.bytes k 0)

@@ -1,19 +1,18 @@
-use Rattle.std.proofs.Common.{◌-◌, ◌<◌, ◌≤◌, [], ◌∷◌, ◌++◌, length, Some, ℕ, List}
+use Rattle.std.proofs.Common.{ℕ, ◌-◌, List, ◌∷◌, ◌++◌, Some, length}
 use Rattle.ctl_base.specs.declared.limits.TheConstants.{NESTING}
 use Rattle.ctl_tree.specs.declared.definition.Parameter.{Parameter}
-use Rattle.ctl_tree.specs.Modules.{AreMoreParameters, AreParameters}
-use Rattle.ctl_parser.specs.Machine.{Passes}
-use Rattle.ctl_parser.specs.Machine.Symbol.{Parameters, MoreParameters}
+use Rattle.ctl_tree.specs.Modules.{AreParameters, AreMoreParameters}
+use Rattle.grammar_machine.specs.Machine.{Symbol, Parameters, MoreParameters}
+use Rattle.ctl_parser_expr.specs.Parses.{Comes, At, IsBetween}
 use Rattle.ctl_parser.proofs.parameters.parameters.Given as goal
 
--- whatever parameters follow, those so far stand before them
+-- whatever follows, what has been read stands before it
 abbrev pub invariant-each : goal.invariant-each
 invariant-each l = record {
   spelled : (more : List Parameter) (after : ℕ) → AreMoreParameters l.lexemes (Some NESTING) l.nesting l.next more after
-      → AreParameters l.lexemes (Some NESTING) l.nesting l.at (l.parameters ++ more) after;
-  passed : Passes l.lexemes (Some NESTING) (Parameters l.nesting ∷ []) l.at (MoreParameters l.nesting ∷ []) l.next;
-  from : l.at < l.next;
-  within : l.next ≤ length l.lexemes;
+      → AreParameters l.lexemes (Some NESTING) l.nesting l.at (l.parameters.items ++ more) after;
+  passed : (below : List Symbol) → Comes l.lexemes (Some NESTING) (Parameters l.nesting ∷ below) l.at (At (MoreParameters l.nesting ∷ below) l.next);
+  between : IsBetween l.at l.next l.lexemes;
 }
 
 abbrev pub decreases-each : goal.decreases-each

@@ -1,11 +1,12 @@
-use Rattle.std.proofs.Common.{◌+◌, ◌*◌, ◌-◌, ◌<◌, ◌≤◌, [], ◌∷◌, ◌++◌, length, Some, Option, ℕ, List}
+use Rattle.std.proofs.Common.{ℕ, ◌+◌, ◌-◌, ◌*◌, ◌≤◌, List, ◌∷◌, ◌++◌, Option, Some, length}
 use Rattle.ctl_base.specs.declared.limits.TheConstants.{NESTING}
-use Rattle.ctl_tree.specs.declared.statement.Statement.{Statement as StatementForm}
-use Rattle.ctl_tree.specs.declared.statement.Arm.{Arm as ArmForm}
+use Rattle.ctl_tree.specs.declared.statement.Arm.{Arm}
+use Rattle.ctl_tree.specs.declared.statement.If.{roll-If}
+use Rattle.ctl_tree.specs.declared.statement.Statement.{Statement}
 use Rattle.ctl_tree.specs.Statements.{AreStatements, AreElses}
-use Rattle.ctl_parser.specs.Machine.{Passes}
-use Rattle.ctl_parser.specs.Machine.Symbol.{Statements, Arm, Elses}
-use Rattle.ctl_parser.specs.Parts.{AreArms}
+use Rattle.grammar_machine.specs.Machine.{Symbol, Statements, Arm as ArmSymbol, Elses}
+use Rattle.ctl_parser_expr.specs.Parses.{Comes, At, IsBetween}
+use Rattle.ctl_parser.specs.PrivateParts.{AreArms}
 use Rattle.ctl_parser.proofs.statements.+statement.Given as goal
 
 -- the nesting that may still come, and the order of the calls at one nesting
@@ -16,20 +17,20 @@ decreases-statements l = 10 * (NESTING - l.nesting)
 abbrev pub decreases-arm : goal.decreases-arm
 decreases-arm l = 10 * (NESTING - l.nesting)
 
-abbrev pub decreases-block : goal.decreases-block
-decreases-block l = 10 * (NESTING - l.nesting) + 1
-
 abbrev pub decreases-arms : goal.decreases-arms
 decreases-arms l = 10 * (NESTING - l.nesting) + 1
 
-abbrev pub decreases-while_statement : goal.decreases-while_statement
-decreases-while_statement l = 10 * (NESTING - l.nesting) + 1
-
-abbrev pub decreases-for_statement : goal.decreases-for_statement
-decreases-for_statement l = 10 * (NESTING - l.nesting) + 1
+abbrev pub decreases-block : goal.decreases-block
+decreases-block l = 10 * (NESTING - l.nesting) + 1
 
 abbrev pub decreases-if_statement : goal.decreases-if_statement
 decreases-if_statement l = 10 * (NESTING - l.nesting) + 2
+
+abbrev pub decreases-while_statement : goal.decreases-while_statement
+decreases-while_statement l = 10 * (NESTING - l.nesting)
+
+abbrev pub decreases-for_statement : goal.decreases-for_statement
+decreases-for_statement l = 10 * (NESTING - l.nesting)
 
 abbrev pub decreases-keyword_statement : goal.decreases-keyword_statement
 decreases-keyword_statement l = 10 * (NESTING - l.nesting) + 3
@@ -41,9 +42,9 @@ decreases-statement l = 10 * (NESTING - l.nesting) + 4
 
 abbrev pub invariant-statements-each : goal.invariant-statements-each
 invariant-statements-each l = record {
-  spelled : (more : List StatementForm) (after : ℕ) → AreStatements l.lexemes (Some NESTING) l.nesting l.next more after
-      → AreStatements l.lexemes (Some NESTING) l.nesting l.at (l.statements ++ more) after;
-  passed : Passes l.lexemes (Some NESTING) (Statements l.nesting ∷ []) l.at (Statements l.nesting ∷ []) l.next;
+  spelled : (more : List Statement) (after : ℕ) → AreStatements l.lexemes (Some NESTING) l.nesting l.next more after
+      → AreStatements l.lexemes (Some NESTING) l.nesting l.at (l.statements.items ++ more) after;
+  passed : (below : List Symbol) → Comes l.lexemes (Some NESTING) (Statements l.nesting ∷ below) l.at (At (Statements l.nesting ∷ below) l.next);
   from : l.at ≤ l.next;
   within : l.next ≤ length l.lexemes;
 }
@@ -53,11 +54,10 @@ decreases-statements-each l = length l.lexemes - l.next
 
 abbrev pub invariant-arms-each : goal.invariant-arms-each
 invariant-arms-each l = record {
-  spelled : (more : List ArmForm) (otherwise : Option StatementForm) (after : ℕ) → AreElses l.lexemes (Some NESTING) l.nesting l.next more otherwise after
-      → AreArms l.lexemes (Some NESTING) l.nesting l.at (l.arms ++ more) otherwise after;
-  passed : Passes l.lexemes (Some NESTING) (Arm l.nesting ∷ Elses l.nesting ∷ []) l.at (Elses l.nesting ∷ []) l.next;
-  from : l.at < l.next;
-  within : l.next ≤ length l.lexemes;
+  spelled : (more : List Arm) (otherwise : Option Statement) (after : ℕ) → AreElses l.lexemes (Some NESTING) l.nesting l.next more otherwise after
+      → AreArms l.lexemes l.nesting l.at (roll-If (record { arms = l.arms.items ++ more; otherwise = otherwise; token = l.at })) after;
+  passed : (below : List Symbol) → Comes l.lexemes (Some NESTING) (ArmSymbol l.nesting ∷ Elses l.nesting ∷ below) (l.at + 1) (At (Elses l.nesting ∷ below) l.next);
+  between : IsBetween (l.at + 1) l.next l.lexemes;
 }
 
 abbrev pub decreases-arms-each : goal.decreases-arms-each

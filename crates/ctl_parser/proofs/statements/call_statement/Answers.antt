@@ -1,14 +1,20 @@
-use Rattle.ctl_parser.proofs.Refused.{refused}
-use Rattle.ctl_parser.proofs.AssignmentExits.{in_statement_call, in_statement_call_end, call_statement_of}
+use Rattle.std.proofs.Common.{arith, refl}
+use Rattle.ctl_tree.specs.Expressions.{call_of}
+use Rattle.ctl_tree.specs.Statements.{call_statement}
+use Rattle.ctl_parser.proofs.Ways.{done, pass, sign, refused}
 use Rattle.ctl_parser.proofs.statements.call_statement.Goals as goal
 
-pub returns-in_err-arguments-clause-fails : goal.returns-in_err-arguments-clause-fails
-returns-in_err-arguments-clause-fails c = refused _ _ _ c.from_residual.ensures.1 (in_statement_call _ _ _ _ _ _ _ c.requires.begins c.requires.named c.requires.sees c.in_err-arguments.ensures.fails)
+pub returns-in_err-arguments : goal.returns-in_err-arguments
+returns-in_err-arguments c = refused c.from_residual.ensures.1 (λ below. c.in_err-arguments.ensures.follows _)
 
-pub returns-in_err-end-clause-fails : goal.returns-in_err-end-clause-fails
-returns-in_err-end-clause-fails c =
-    refused _ _ _ c.from_residual-in_err-end.ensures.1
-    (in_statement_call_end _ _ _ _ _ _ _ _ _ c.requires.begins c.requires.named c.requires.sees c.in_ok-arguments.ensures.spells c.in_err-end.ensures.fails)
+pub returns-in_err-expect : goal.returns-in_err-expect
+returns-in_err-expect c = refused c.from_residual-in_err-expect.ensures.1 (λ below. pass c.in_ok-arguments.ensures.follows (c.in_err-expect.ensures.fails _))
 
-pub returns-clause-spells : goal.returns-clause-spells
-returns-clause-spells c = call_statement_of _ _ _ _ _ _ _ _ _ c.requires.named c.requires.sees c.in_ok-arguments.ensures.spells c.in_ok-end.ensures.sees.0 c.in_ok-end.ensures.sees.1
+pub returns : goal.returns
+returns c = record {
+  reads = (
+    rw c.in_ok-call.ensures (call_statement _ (call_of _ c.requires.named c.requires.sees c.in_ok-arguments.ensures.reads.0) c.in_ok-expect.ensures.sees.0 refl),
+    (omega (arith, c.in_ok-arguments.ensures.reads.1.0), omega (arith, c.in_ok-expect.ensures.sees.1), c.requires.few),
+  );
+  follows = λ below. pass c.in_ok-arguments.ensures.follows (sign refl c.in_ok-expect.ensures.sees.0 refl (done refl));
+}

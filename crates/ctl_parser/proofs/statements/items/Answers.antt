@@ -1,41 +1,46 @@
-use Rattle.std.proofs.Common.{arith, [], ◌∷◌, ◌++◌, Some, ◌∙◌, subst, append_assoc, append-nil, ap}
-use Rattle.ctl_base.specs.declared.limits.TheConstants.{NESTING}
+use Rattle.std.proofs.Common.{arith, ◌+◌, [], refl, ap, sym, append_assoc, append-nil}
 use Rattle.ctl_tree.specs.Statements.{items_end, more_items}
-use Rattle.ctl_parser.specs.Parts.{AreItems}
-use Rattle.ctl_parser.proofs.Steps.{two}
-use Rattle.ctl_parser.proofs.Refused.{refused}
-use Rattle.ctl_parser.proofs.StatementExits.{in_first_item, in_item, first_item_passed, one_more_item, items_not_closed, in_items_end}
+use Rattle.grammar_machine.specs.Machine.{more_items_move}
+use Rattle.ctl_parser.specs.PrivateParts.{several}
+use Rattle.ctl_parser.proofs.MovesOfStatements.{no_more_items}
+use Rattle.ctl_parser.proofs.Ways.{two, done, on, pass, read, sign, stop, refused}
 use Rattle.ctl_parser.proofs.statements.items.Goals as goal
+
+pub returns-in_err-first : goal.returns-in_err-first
+returns-in_err-first c = refused c.from_residual.ensures.1 (λ below. c.in_err-first.ensures.follows _)
 
 pub each-init : goal.each-init
 each-init c = record {
-  spelled = λ more after are. (_, more, _, ap (λ items. items ++ more) (c.in_ok-push.ensures.ok ∙ ap (λ items. items ++ c.in_ok-first.first ∷ []) c.new-items.ensures), c.in_ok-first.ensures.spells, are);
-  passed = first_item_passed _ _ _ _ _ _ c.in_ok-first.ensures.spells;
-  from = omega (arith, c.in_ok-first.ensures.ends);
-  within = omega (arith, c.in_ok-first.ensures.ends);
+  spelled = λ more after are. rw (c.in_ok-put.ensures, c.new-items.ensures.items) (several _ c.in_ok-first.ensures.reads.0 are);
+  passed = λ below. pass c.in_ok-first.ensures.follows (done refl);
+  between = c.in_ok-first.ensures.reads.1;
 }
 
-pub returns-in_err-first-clause-fails : goal.returns-in_err-first-clause-fails
-returns-in_err-first-clause-fails c = refused _ _ _ c.from_residual.ensures.1 (in_first_item _ _ _ _ _ c.in_err-first.ensures.fails)
-
-pub returns-in_err-more-clause-fails : goal.returns-in_err-more-clause-fails
-returns-in_err-more-clause-fails c = refused _ _ _ c.from_residual-in_err-more.ensures.1 (in_item _ _ _ _ _ _ c.each.invariant.passed c.each-test.ensures.told.0 c.in_err-more.ensures.fails)
+pub returns-in_err-more : goal.returns-in_err-more
+returns-in_err-more c =
+    refused c.from_residual-in_err-more.ensures.1 (λ below. on (c.each.invariant.passed below) (read (ap (more_items_move _) c.each-test.ensures.told.0) refl (c.in_err-more.ensures.follows _)))
 
 pub each-preserved : goal.each-preserved
-each-preserved c = record {
-  spelled = λ more after are. rw (c.in_ok-push-2.ensures.ok, append_assoc) (c.each.invariant.spelled _ after (more_items _ c.each-test.ensures.told.0 c.in_ok-more.ensures.spells are));
-  passed = one_more_item _ _ _ _ _ _ _ c.each.invariant.passed c.each-test.ensures.told.0 c.in_ok-more.ensures.spells;
-  from = omega (arith, c.each.invariant.from, c.in_ok-more.ensures.ends);
-  within = omega (arith, c.in_ok-more.ensures.ends);
+each-preserved c =
+    let ends = c.in_ok-more.ensures.reads.1 in
+    record {
+      spelled = λ more after are. rw (c.in_ok-put-2.ensures, append_assoc) (c.each.invariant.spelled _ after (more_items _ c.each-test.ensures.told.0 c.in_ok-more.ensures.reads.0 are));
+      passed = λ below. on (c.each.invariant.passed below) (read (ap (more_items_move _) c.each-test.ensures.told.0) refl (pass c.in_ok-more.ensures.follows (done refl)));
+      between = (omega (arith, c.each.invariant.between.0, ends.0), ends.1, ends.2);
+    }
+
+pub returns-then-not-sees : goal.returns-then-not-sees
+returns-then-not-sees c = record { reads = tt; follows = λ below. on (c.each.invariant.passed below) (stop (no_more_items _ _ c.each-test.ensures.told c.if-not-sees.ensures.told)) }
+
+pub returns-in_err-expect : goal.returns-in_err-expect
+returns-in_err-expect c =
+    refused c.from_residual-in_err-expect.ensures.1 (λ below. on (c.each.invariant.passed below) (read (ap (more_items_move _) c.if-not-sees.ensures.told.0) refl (c.in_err-expect.ensures.fails _)))
+
+pub returns : goal.returns
+returns c = record {
+  reads = (
+    rw (c.from_vec.ensures, sym (append-nil c.each.items.items)) (c.each.invariant.spelled [] (c.each.next + 2) (items_end c.if-not-sees.ensures.told.0 c.in_ok-expect.ensures.sees.0 refl)),
+    (omega (arith, c.each.invariant.between.0), omega (arith, c.in_ok-expect.ensures.sees.1), c.each.invariant.between.2),
+  );
+  follows = λ below. on (c.each.invariant.passed below) (read (ap (more_items_move _) c.if-not-sees.ensures.told.0) refl (sign refl c.in_ok-expect.ensures.sees.0 (two _) (done refl)));
 }
-
-pub returns-then-not-sees-clause-fails : goal.returns-then-not-sees-clause-fails
-returns-then-not-sees-clause-fails c = items_not_closed _ _ _ _ _ c.each.invariant.passed c.each-test.ensures.told c.if-not-sees.ensures.told
-
-pub returns-in_err-end-clause-fails : goal.returns-in_err-end-clause-fails
-returns-in_err-end-clause-fails c = refused _ _ _ c.from_residual-in_err-end.ensures.1 (in_items_end _ _ _ _ _ _ c.each.invariant.passed c.if-not-sees.ensures.told.0 c.in_err-end.ensures.fails)
-
-pub returns-clause-spells : goal.returns-clause-spells
-returns-clause-spells c =
-    subst (λ items. AreItems c.args.lexemes.now (Some NESTING) c.args.nesting c.args.at items c.in_ok-end.end) (append-nil c.each.items)
-    (c.each.invariant.spelled [] c.in_ok-end.end (items_end c.if-not-sees.ensures.told.0 c.in_ok-end.ensures.sees.0 (c.in_ok-end.ensures.sees.1 ∙ two c.each.next)))

@@ -1,13 +1,19 @@
-use Rattle.ctl_parser.proofs.Refused.{refused}
-use Rattle.ctl_parser.proofs.StatementExits.{in_print_sign, in_print_items, print_of}
+use Rattle.std.proofs.Common.{arith}
+use Rattle.ctl_parser.proofs.Readings.{printed}
+use Rattle.ctl_parser.proofs.Ways.{two, sign, refused}
+use Rattle.std.proofs.Common.{refl}
 use Rattle.ctl_parser.proofs.statements.print_statement.Goals as goal
 
-pub returns-in_err-next-clause-fails : goal.returns-in_err-next-clause-fails
-returns-in_err-next-clause-fails c = refused _ _ _ c.from_residual.ensures.1 (in_print_sign _ _ _ _ _ c.requires.sees c.in_err-next.ensures.fails)
+pub returns-in_err-expect : goal.returns-in_err-expect
+returns-in_err-expect c = refused c.from_residual.ensures.1 (λ below. c.in_err-expect.ensures.fails _)
 
-pub returns-in_err-items-clause-fails : goal.returns-in_err-items-clause-fails
-returns-in_err-items-clause-fails c =
-    refused _ _ _ c.from_residual-in_err-items.ensures.1 (in_print_items _ _ _ _ _ _ c.requires.sees c.in_ok-next.ensures.sees.0 c.in_ok-next.ensures.sees.1 c.in_err-items.ensures.fails)
+pub returns-in_err-items : goal.returns-in_err-items
+returns-in_err-items c = refused c.from_residual-in_err-items.ensures.1 (λ below. sign refl c.in_ok-expect.ensures.sees.0 (two _) (c.in_err-items.ensures.follows _))
 
-pub returns-clause-spells : goal.returns-clause-spells
-returns-clause-spells c = print_of _ _ _ _ _ _ _ c.requires.sees c.in_ok-next.ensures.sees.0 c.in_ok-next.ensures.sees.1 c.in_ok-items.ensures.spells
+pub returns : goal.returns
+returns c =
+    let ends = c.in_ok-items.ensures.reads.1 in
+    record {
+      reads = (printed c.requires.sees c.in_ok-expect.ensures.sees.0 c.in_ok-items.ensures.reads.0, (omega (arith, ends.0), ends.1, ends.2));
+      follows = λ below. sign refl c.in_ok-expect.ensures.sees.0 (two _) (c.in_ok-items.ensures.follows below);
+    }

@@ -1,13 +1,18 @@
-use Rattle.ctl_parser.proofs.Refused.{refused}
-use Rattle.ctl_parser.proofs.AssignmentExits.{in_statement_shape, in_statement_shaped, shaped_of}
+use Rattle.std.proofs.Common.{arith}
+use Rattle.ctl_tree.specs.Statements.{variable_statement}
+use Rattle.ctl_parser.proofs.Ways.{pass, refused}
 use Rattle.ctl_parser.proofs.statements.shape_statement.Goals as goal
 
-pub returns-in_err-shape-clause-fails : goal.returns-in_err-shape-clause-fails
-returns-in_err-shape-clause-fails c = refused _ _ _ c.from_residual.ensures.1 (in_statement_shape _ _ _ _ _ c.requires.begins c.in_err-shape.ensures.fails)
+pub returns-in_err-shape : goal.returns-in_err-shape
+returns-in_err-shape c = refused c.from_residual.ensures.1 (λ below. c.in_err-shape.ensures.follows _)
 
-pub returns-in_err-variable-clause-fails : goal.returns-in_err-variable-clause-fails
-returns-in_err-variable-clause-fails c =
-    refused _ _ _ c.from_residual-in_err-variable.ensures.1 (in_statement_shaped _ _ _ _ _ _ _ c.requires.begins c.in_ok-shape.ensures.spells c.in_err-variable.ensures.fails)
+pub returns-in_err-variable : goal.returns-in_err-variable
+returns-in_err-variable c = refused c.from_residual-in_err-variable.ensures.1 (λ below. pass c.in_ok-shape.ensures.follows (c.in_err-variable.ensures.follows below))
 
-pub returns-clause-spells : goal.returns-clause-spells
-returns-clause-spells c = shaped_of _ _ _ _ _ _ _ _ c.in_ok-variable.ensures.spells c.in_ok-shape.ensures.spells
+pub returns : goal.returns
+returns c =
+    let ends = c.in_ok-variable.ensures.reads.1 in
+    record {
+      reads = (rw c.in_ok-variable-2.ensures (variable_statement (c.in_ok-variable.ensures.reads.0 _ c.in_ok-shape.ensures.reads.0)), (omega (arith, c.in_ok-shape.ensures.reads.1.0, ends.0), ends.1, ends.2));
+      follows = λ below. pass c.in_ok-shape.ensures.follows (c.in_ok-variable.ensures.follows below);
+    }

@@ -1,0 +1,39 @@
+use Rattle.std.proofs.Common.{arith, refl}
+use Rattle.ctl_tree.specs.Declarations.{constant}
+use Rattle.ctl_parser_expr.proofs.Ways.{done, pass, sign, word, refused}
+use Rattle.ctl_parser_expr.proofs.declarations.constant.Goals as goal
+
+pub returns-in_err-shape : goal.returns-in_err-shape
+returns-in_err-shape c = refused c.from_residual.ensures.1 (λ below. c.in_err-shape.ensures.follows _)
+
+pub returns-in_err-name : goal.returns-in_err-name
+returns-in_err-name c = refused c.from_residual-in_err-name.ensures.1 (λ below. pass c.in_ok-shape.ensures.follows (c.in_err-name.ensures.fails _))
+
+pub returns-in_err-sizes : goal.returns-in_err-sizes
+returns-in_err-sizes c = refused c.from_residual-in_err-sizes.ensures.1 (λ below. pass c.in_ok-shape.ensures.follows (word c.in_ok-name.ensures.sees.0 refl (c.in_err-sizes.ensures.follows _)))
+
+pub returns-in_err-expect : goal.returns-in_err-expect
+returns-in_err-expect c =
+    refused c.from_residual-in_err-expect.ensures.1
+    (λ below. pass c.in_ok-shape.ensures.follows (word c.in_ok-name.ensures.sees.0 refl (pass c.in_ok-sizes.ensures.follows (c.in_err-expect.ensures.fails _))))
+
+pub returns-in_err-value : goal.returns-in_err-value
+returns-in_err-value c =
+    refused c.from_residual-in_err-value.ensures.1
+    (λ below. pass c.in_ok-shape.ensures.follows (word c.in_ok-name.ensures.sees.0 refl (pass c.in_ok-sizes.ensures.follows (sign refl c.in_ok-expect.ensures.sees.0 refl (c.in_err-value.ensures.follows _)))))
+
+pub returns-in_err-expect-2 : goal.returns-in_err-expect-2
+returns-in_err-expect-2 c =
+    refused c.from_residual-in_err-expect-2.ensures.1
+    (λ below. pass c.in_ok-shape.ensures.follows (word c.in_ok-name.ensures.sees.0 refl (pass c.in_ok-sizes.ensures.follows (sign refl c.in_ok-expect.ensures.sees.0 refl
+    (pass c.in_ok-value.ensures.follows (c.in_err-expect-2.ensures.fails _))))))
+
+pub returns : goal.returns
+returns c = record {
+  reads = (
+    constant _ _ _ c.requires.sees c.in_ok-shape.ensures.reads.0 c.in_ok-name.ensures.sees.0 c.in_ok-sizes.ensures.reads.0 c.in_ok-expect.ensures.sees.0 c.in_ok-value.ensures.reads.0 c.in_ok-expect-2.ensures.sees.0 refl,
+    (omega (arith, c.in_ok-shape.ensures.reads.1.0, c.in_ok-sizes.ensures.reads.1.0, c.in_ok-value.ensures.reads.1.0), omega (arith, c.in_ok-expect-2.ensures.sees.1), c.in_ok-expect-2.ensures.sees.2),
+  );
+  follows = λ below. pass c.in_ok-shape.ensures.follows (word c.in_ok-name.ensures.sees.0 refl (pass c.in_ok-sizes.ensures.follows (sign refl c.in_ok-expect.ensures.sees.0 refl
+      (pass c.in_ok-value.ensures.follows (sign refl c.in_ok-expect-2.ensures.sees.0 refl (done refl))))));
+}
