@@ -8,18 +8,18 @@ use Rattle.std.proofs.lemmas.List.Concat.{flat_map-append}
 use Rattle.byteorder.specs.Endian.{big_bytes, big_number}
 use Rattle.byteorder.specs.Numbers.{big_number-reads_back}
 use Rattle.dpx_file.specs.declared.fault.DpxFault.{DpxFault}
-use Rattle.dpx_file.specs.Plain.{PlainImage, IsImage, IsSize, IsDepth}
-use Rattle.dpx_file.specs.Fields.{Field, field, header_size, encryption_key, offset_to_image_data, image_orientation, number_of_image_elements, pixels_per_line, lines_per_image_element, data_sign, descriptor, bit_size, packing, encoding, offset_to_data, end_of_line_padding}
-use Rattle.dpx_file.specs.Reading.{Header, number, is_unset, is_packing, start_of_pixels, padding_of, header_of, layout_of, bytes_needed, pixel_size, reading_in, dpx_reading}
+use Rattle.dpx_file.specs.Plain.{PlainImage, IsImage, IsImageSize, IsBitDepth}
+use Rattle.dpx_file.specs.Fields.{HeaderField, field, header_size, encryption_key, offset_to_image_data, image_orientation, number_of_image_elements, pixels_per_line, lines_per_image_element, data_sign, descriptor, bit_size, packing, encoding, offset_to_data, end_of_line_padding}
+use Rattle.dpx_file.specs.Reading.{Header, number_at, is_unset, is_packing, start_of_pixels, padding_of, header_of, layout_of, bytes_needed, pixel_size, reading_in, dpx_reading}
 use Rattle.dpx_file.specs.Writing.{Row, row_bytes, header_rows, header, pixels, dpx_writing}
 use Rattle.dpx_file.specs.Canvas.{written_packing, written_layout}
 use Rattle.dpx_file.proofs.CodeLemmas.{depth_cases}
-use Rattle.dpx_file.proofs.Sizes.{test-from_IsSize}
+use Rattle.dpx_file.proofs.Sizes.{test-from_IsImageSize}
 use Rattle.dpx_file.proofs.Written.{sizes, length-rows, length-header, length-written, codes_back}
 
 -- the number of a row, read where the rows before it end
-row_back : (rows : List Row) (n : ℕ) (f : Field) (v : ℕ) (rest : List ℕ) → n < length rows → get_or rows n (field 0 0, 0) ≡ (f, v) → sizes (take n rows) ≡ f.at → v < 256 ^ f.size
-    → number big_number f (flat_map row_bytes rows ++ rest) ≡ v
+row_back : (rows : List Row) (n : ℕ) (f : HeaderField) (v : ℕ) (rest : List ℕ) → n < length rows → get_or rows n (field 0 0, 0) ≡ (f, v) → sizes (take n rows) ≡ f.at → v < 256 ^ f.size
+    → number_at big_number f (flat_map row_bytes rows ++ rest) ≡ v
 row_back rows n f v rest within here at fits =
     let before = take n rows in
     let after = drop (n + 1) rows in
@@ -50,7 +50,7 @@ written_header width height depth = record {
   end_of_line_padding = 0;
 }
 
-module _ (size width height depth : ℕ) (rest : List ℕ) (some : IsSize width height) (is : IsDepth depth) where
+module _ (size width height depth : ℕ) (rest : List ℕ) (some : IsImageSize width height) (is : IsBitDepth depth) where
   header_back : header_of big_number (flat_map row_bytes (header_rows size width height depth) ++ rest) ≡ written_header width height depth
   unfolding header_of header_rows sizes
   header_back =
@@ -73,14 +73,14 @@ module _ (size width height depth : ℕ) (rest : List ℕ) (some : IsSize width 
         row_back rows 31 (end_of_line_padding 0) 0 rest (lit< tt) refl refl (lit< tt),
       ) refl
 
-packed_well : (depth : ℕ) → IsDepth depth → is_packing depth (written_packing depth) ≡ true
+packed_well : (depth : ℕ) → IsBitDepth depth → is_packing depth (written_packing depth) ≡ true
 unfolding is_packing
 packed_well depth is = depth_cases (λ d. is_packing d (written_packing d) ≡ true) depth is refl refl
 
 -- its layout
-layout_back : (width height depth : ℕ) → IsSize width height → IsDepth depth → layout_of (written_header width height depth) ≡ Ok (written_layout width height depth)
+layout_back : (width height depth : ℕ) → IsImageSize width height → IsBitDepth depth → layout_of (written_header width height depth) ≡ Ok (written_layout width height depth)
 unfolding layout_of is_unset start_of_pixels padding_of
-layout_back width height depth some is = rw (test-from_IsSize width height some, is, packed_well depth is) refl
+layout_back width height depth some is = rw (test-from_IsImageSize width height some, is, packed_well depth is) refl
 
 -- the magic number
 magic_back : (size width height depth : ℕ) (rest : List ℕ) → starts_with nat_eq (flat_map row_bytes (header_rows size width height depth) ++ rest) (codes "SDPX") ≡ true

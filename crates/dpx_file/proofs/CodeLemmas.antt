@@ -6,8 +6,8 @@ use Rattle.std.proofs.lemmas.Nat.{mod_below}
 use Rattle.std.proofs.lemmas.Bool.{eqb-true}
 use Rattle.std.proofs.lemmas.List.{get_or-drop}
 use Rattle.std.proofs.lemmas.List.Elements.{All-cons, All-nil}
-use Rattle.dpx_file.specs.Plain.{IsDepth, CodesFit}
-use Rattle.dpx_file.specs.Reading.{Order, Layout, lowest_bit, pixel_size, pixel_codes, line_codes, line_start, codes_of}
+use Rattle.dpx_file.specs.Plain.{IsBitDepth, CodesFit}
+use Rattle.dpx_file.specs.Reading.{Order, Layout, lowest_bit, pixel_size, pixel_codes, line_codes, line_start, codes_in_file}
 use Rattle.dpx_file.proofs.Lists.{length_flat_range, All-flat_map}
 
 pub length_pixel : (order : Order) (depth packing : ℕ) (bytes : List ℕ) → length (pixel_codes order depth packing bytes) ≡ 3
@@ -19,8 +19,8 @@ unfolding line_codes
 length_line order depth packing width bytes =
     length_flat_range (λ x. pixel_codes order depth packing (drop (x * pixel_size depth) bytes)) 3 0 width (λ x. length_pixel order depth packing (drop (x * pixel_size depth) bytes)) ∙ mul_comm width 3
 
-pub length_codes : (order : Order) (l : Layout) (file : List ℕ) → length (codes_of order l file) ≡ 3 * l.width * l.height
-unfolding codes_of
+pub length_codes : (order : Order) (l : Layout) (file : List ℕ) → length (codes_in_file order l file) ≡ 3 * l.width * l.height
+unfolding codes_in_file
 length_codes order l file =
     length_flat_range (λ y. line_codes order l.depth l.packing l.width (drop (line_start l y) file)) (3 * l.width) 0 l.height (λ y. length_line order l.depth l.packing l.width (drop (line_start l y) file))
     ∙ mul_comm l.height (3 * l.width)
@@ -38,7 +38,7 @@ AreBytes-drop : (n : ℕ) (bytes : List ℕ) → AreBytes bytes → AreBytes (dr
 AreBytes-drop n bytes h i = rw get_or-drop (h (n + i))
 
 -- the two depths
-pub depth_cases : (P : ℕ → Type 0) (depth : ℕ) → IsDepth depth → P 10 → P 16 → P depth
+pub depth_cases : (P : ℕ → Type 0) (depth : ℕ) → IsBitDepth depth → P 10 → P 16 → P depth
 depth_cases P depth is ten sixteen = by_test (eqb depth 10) (eqb depth 16) refl refl is
   where
     by_test : (a b : Bool) → eqb depth 10 ≡ a → eqb depth 16 ≡ b → (a || b) ≡ true → P depth
@@ -63,18 +63,18 @@ module _ (order : Order) (packing : ℕ) where
       let P : ℕ → Type 0 = λ c. c < 2 ^ 16 in
       All-cons P (v 0) (v 1 ∷ v 2 ∷ []) (m 0) (All-cons P (v 1) (v 2 ∷ []) (m 1) (All-cons P (v 2) [] (m 2) (All-nil P)))
 
-  pixel_fits : (depth : ℕ) → IsDepth depth → FitsTwo order → (bytes : List ℕ) → AreBytes bytes → CodesFit depth (pixel_codes order depth packing bytes)
+  pixel_fits : (depth : ℕ) → IsBitDepth depth → FitsTwo order → (bytes : List ℕ) → AreBytes bytes → CodesFit depth (pixel_codes order depth packing bytes)
   pixel_fits depth is fits bytes are =
       depth_cases (λ d. CodesFit d (pixel_codes order d packing bytes)) depth is (ten_pixel bytes) (sixteen_pixel fits bytes are)
 
-  line_fits : (depth width : ℕ) → IsDepth depth → FitsTwo order → (bytes : List ℕ) → AreBytes bytes → CodesFit depth (line_codes order depth packing width bytes)
+  line_fits : (depth width : ℕ) → IsBitDepth depth → FitsTwo order → (bytes : List ℕ) → AreBytes bytes → CodesFit depth (line_codes order depth packing width bytes)
   unfolding line_codes
   line_fits depth width is fits bytes are =
       All-flat_map (λ c. c < 2 ^ depth) (λ x. pixel_codes order depth packing (drop (x * pixel_size depth) bytes))
       (λ x. pixel_fits depth is fits (drop (x * pixel_size depth) bytes) (AreBytes-drop (x * pixel_size depth) bytes are)) (range_with_len 0 width)
 
-pub codes_fit : (order : Order) (l : Layout) (file : List ℕ) → IsDepth l.depth → FitsTwo order → AreBytes file → CodesFit l.depth (codes_of order l file)
-unfolding codes_of
+pub codes_fit : (order : Order) (l : Layout) (file : List ℕ) → IsBitDepth l.depth → FitsTwo order → AreBytes file → CodesFit l.depth (codes_in_file order l file)
+unfolding codes_in_file
 codes_fit order l file is fits are =
     All-flat_map (λ c. c < 2 ^ l.depth) (λ y. line_codes order l.depth l.packing l.width (drop (line_start l y) file))
     (λ y. line_fits order l.packing l.depth l.width is fits (drop (line_start l y) file) (AreBytes-drop (line_start l y) file are)) (range_with_len 0 l.height)

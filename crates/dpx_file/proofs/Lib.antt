@@ -1,12 +1,12 @@
-pub mod Bytes
-pub mod RowLemmas
-pub mod Lists
-pub mod Decoding
-pub mod Encoding
-pub mod Sizes
-pub mod LineLemmas
-pub mod CodeLemmas
-pub mod PixelLemmas
-pub mod Written
-pub mod Back
-pub mod Stand
+mod Bytes
+mod RowLemmas
+mod Lists
+mod Decoding
+mod Encoding
+mod Sizes
+mod LineLemmas
+mod CodeLemmas
+mod PixelLemmas
+mod Written
+mod Back
+mod Stand

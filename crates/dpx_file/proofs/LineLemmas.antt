@@ -4,7 +4,7 @@ use Rattle.std.proofs.Math.Nat.{mul-add, add-mul, mul-one, one-mul, mul-le-mul_l
 use Rattle.std.specs.List.{flat_map, range_with_len}
 use Rattle.std.proofs.lemmas.Slice.{take-put_mid}
 use borrow.Rule.Slice.PartMut.{put_mid}
-use Rattle.dpx_file.specs.Reading.{Order, Layout, line_codes, line_size, line_start, bytes_needed, codes_of}
+use Rattle.dpx_file.specs.Reading.{Order, Layout, line_codes, line_size, line_start, bytes_needed, codes_in_file}
 use Rattle.dpx_file.proofs.Lists.{flat_range_next}
 
 -- the codes of the lines below line y
@@ -12,8 +12,8 @@ unfoldable pub lines_below : Order → Layout → List ℕ → ℕ → List ℕ
 lines_below order l file y =
     flat_map (λ k. line_codes order l.depth l.packing l.width (drop (line_start l k) file)) (range_with_len 0 y)
 
-pub lines_all : (order : Order) (l : Layout) (file : List ℕ) → lines_below order l file l.height ≡ codes_of order l file
-unfolding lines_below codes_of
+pub lines_all : (order : Order) (l : Layout) (file : List ℕ) → lines_below order l file l.height ≡ codes_in_file order l file
+unfolding lines_below codes_in_file
 lines_all order l file = refl
 
 pub lines_none : (order : Order) (l : Layout) (file : List ℕ) → [] ≡ lines_below order l file 0

@@ -7,7 +7,7 @@ use Rattle.std.proofs.lemmas.List.Concat.{flat_map-append}
 use Rattle.std.proofs.lemmas.List.{drop_more, drop_at, take-append-drop, length-take-le}
 use Rattle.byteorder.specs.Endian.{big_bytes, big_number}
 use Rattle.byteorder.specs.Numbers.{big_number-reads_back}
-use Rattle.dpx_file.specs.Plain.{IsDepth, CodesFit}
+use Rattle.dpx_file.specs.Plain.{IsBitDepth, CodesFit}
 use Rattle.dpx_file.specs.Reading.{pixel_size, pixel_codes, line_codes}
 use Rattle.dpx_file.specs.Writing.{ten_bit_words, pixels}
 use Rattle.dpx_file.specs.Canvas.{written_packing}
@@ -31,13 +31,13 @@ length-sixteen [] = refl
 length-sixteen (c ∷ codes) = let ih = length-sixteen codes in omega arith
 
 -- the bytes of whole pixels stand one behind the other
-pub pixels-append : (depth n : ℕ) (xs ys : List ℕ) → IsDepth depth → length xs ≡ 3 * n → pixels depth (xs ++ ys) ≡ pixels depth xs ++ pixels depth ys
+pub pixels-append : (depth n : ℕ) (xs ys : List ℕ) → IsBitDepth depth → length xs ≡ 3 * n → pixels depth (xs ++ ys) ≡ pixels depth xs ++ pixels depth ys
 pixels-append depth n xs ys is e =
     depth_cases (λ d. pixels d (xs ++ ys) ≡ pixels d xs ++ pixels d ys) depth is
     (rw (pixels-ten (xs ++ ys), pixels-ten xs, pixels-ten ys) (words-append n xs ys e))
     (rw (pixels-sixteen (xs ++ ys), pixels-sixteen xs, pixels-sixteen ys) (flat_map-append (big_bytes 2) xs ys))
 
-pub length-pixels : (depth n : ℕ) (xs : List ℕ) → IsDepth depth → length xs ≡ 3 * n → length (pixels depth xs) ≡ n * pixel_size depth
+pub length-pixels : (depth n : ℕ) (xs : List ℕ) → IsBitDepth depth → length xs ≡ 3 * n → length (pixels depth xs) ≡ n * pixel_size depth
 length-pixels depth n xs is e =
     depth_cases (λ d. length (pixels d xs) ≡ n * pixel_size d) depth is
     (rw (pixels-ten xs) (length-words n xs e ∙ mul_comm 4 n))
@@ -58,7 +58,7 @@ sixteen_zeros (suc n) =
     let two : suc n * 2 ≡ suc (suc (n * 2)) = omega arith in
     rw two (ap (λ (l : List ℕ). 0 ∷ 0 ∷ l) (sixteen_zeros n))
 
-pub pixels-zeros : (depth n : ℕ) → IsDepth depth → pixels depth (replicate (3 * n) 0) ≡ replicate (n * pixel_size depth) 0
+pub pixels-zeros : (depth n : ℕ) → IsBitDepth depth → pixels depth (replicate (3 * n) 0) ≡ replicate (n * pixel_size depth) 0
 pixels-zeros depth n is =
     let e : 3 * n * 2 ≡ n * 6 = omega arith in
     depth_cases (λ d. pixels d (replicate (3 * n) 0) ≡ replicate (n * pixel_size d) 0) depth is
@@ -85,7 +85,7 @@ sixteen_pixel_back r g b rest hr hg hb =
     rw (big_number-reads_back 2 r (big_bytes 2 g ++ (big_bytes 2 b ++ rest)) hr, big_number-reads_back 2 g (big_bytes 2 b ++ rest) hg, big_number-reads_back 2 b rest hb) refl
 
 -- the first pixel of what is written
-pixel_back : (depth r g b : ℕ) (codes rest : List ℕ) → IsDepth depth → r < 2 ^ depth → g < 2 ^ depth → b < 2 ^ depth
+pixel_back : (depth r g b : ℕ) (codes rest : List ℕ) → IsBitDepth depth → r < 2 ^ depth → g < 2 ^ depth → b < 2 ^ depth
     → pixel_codes big_number depth (written_packing depth) (pixels depth (r ∷ g ∷ b ∷ codes) ++ rest) ≡ r ∷ g ∷ b ∷ []
 pixel_back depth r g b codes rest is hr hg hb =
     depth_cases (λ d. r < 2 ^ d → g < 2 ^ d → b < 2 ^ d → pixel_codes big_number d (written_packing d) (pixels d (r ∷ g ∷ b ∷ codes) ++ rest) ≡ r ∷ g ∷ b ∷ []) depth is
@@ -105,7 +105,7 @@ drop_three xs i room =
     drop_more xs i 0 (omega arith) ∙ rw (two', three') refl
 
 -- what stands from a pixel on is what is written of the codes from there on
-pub pixels_from : (depth x : ℕ) (codes rest : List ℕ) → IsDepth depth → 3 * x ≤ length codes
+pub pixels_from : (depth x : ℕ) (codes rest : List ℕ) → IsBitDepth depth → 3 * x ≤ length codes
     → drop (x * pixel_size depth) (pixels depth codes ++ rest) ≡ pixels depth (drop (3 * x) codes) ++ rest
 pixels_from depth x codes rest is room =
     let front = take (3 * x) codes in
@@ -115,7 +115,7 @@ pixels_from depth x codes rest is room =
     rw (parts, append_assoc (pixels depth front) (pixels depth back) rest) (drop_at (pixels depth front) (pixels depth back ++ rest) (x * pixel_size depth) (length-pixels depth x front is len))
 
 -- the first pixels of what is written
-pixels_back : (depth x : ℕ) (codes rest : List ℕ) → IsDepth depth → CodesFit depth codes → 3 * x ≤ length codes
+pixels_back : (depth x : ℕ) (codes rest : List ℕ) → IsBitDepth depth → CodesFit depth codes → 3 * x ≤ length codes
     → line_codes big_number depth (written_packing depth) x (pixels depth codes ++ rest) ≡ take (3 * x) codes
 pixels_back depth zero codes rest is fit room = sym (line_none big_number depth (written_packing depth) (pixels depth codes ++ rest))
 pixels_back depth (suc x) codes rest is fit room =
@@ -132,6 +132,6 @@ pixels_back depth (suc x) codes rest is fit room =
     rw (one, line_next big_number depth (written_packing depth) x bytes, ih, last, more) (sym (take_three_more codes (3 * x) (omega arith)))
 
 -- a line of what is written
-pub line_back : (depth width : ℕ) (codes rest : List ℕ) → IsDepth depth → CodesFit depth codes → 3 * width ≤ length codes
+pub line_back : (depth width : ℕ) (codes rest : List ℕ) → IsBitDepth depth → CodesFit depth codes → 3 * width ≤ length codes
     → line_codes big_number depth (written_packing depth) width (pixels depth codes ++ rest) ≡ take (3 * width) codes
 line_back depth width codes rest is fit room = pixels_back depth width codes rest is fit room

@@ -1,16 +1,16 @@
 -- The sizes that are read, as a test and as facts.
 use Rattle.std.proofs.Common.{◌≡◌, ℕ, Bool, true, false, ◌&&◌, refl}
 use Rattle.std.proofs.lemmas.Bool.{leb-true, le-leb}
-use Rattle.dpx_file.specs.Plain.{IsSize}
+use Rattle.dpx_file.specs.Plain.{IsImageSize}
 use Rattle.dpx_file.specs.Reading.{is_size}
 
 both : (a b : Bool) → (a && b) ≡ true → (a ≡ true) × (b ≡ true)
 both true b e = (refl, e)
 both false b e = absurd cc
 
-pub IsSize-from_test : (width height : ℕ) → is_size width height ≡ true → IsSize width height
+pub IsImageSize-from_test : (width height : ℕ) → is_size width height ≡ true → IsImageSize width height
 unfolding is_size
-IsSize-from_test width height e =
+IsImageSize-from_test width height e =
     let a = both _ _ e in
     let b = both _ _ a.0 in
     let c = both _ _ b.0 in
@@ -23,7 +23,7 @@ IsSize-from_test width height e =
       pixels_within = leb-true _ _ a.1;
     }
 
-pub test-from_IsSize : (width height : ℕ) → IsSize width height → is_size width height ≡ true
+pub test-from_IsImageSize : (width height : ℕ) → IsImageSize width height → is_size width height ≡ true
 unfolding is_size
-test-from_IsSize width height s =
+test-from_IsImageSize width height s =
     rw (le-leb _ _ s.some_width, le-leb _ _ s.width_within, le-leb _ _ s.some_height, le-leb _ _ s.height_within, le-leb _ _ s.pixels_within) refl

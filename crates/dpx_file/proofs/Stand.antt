@@ -3,7 +3,7 @@ use Rattle.std.proofs.Common.{◌≡◌, ℕ, zero, suc, ◌+◌, ◌*◌, ◌<�
 use Rattle.std.specs.List.{flat_map, range_with_len}
 use Rattle.std.proofs.Math.Nat.{mul-suc}
 use Rattle.std.proofs.lemmas.List.{get_or_append_left, get_or-append-add, drop-drop}
-use Rattle.dpx_file.specs.Reading.{Order, pixel_size, line_start, code_in_pixel, pixel_codes, line_codes, codes_of}
+use Rattle.dpx_file.specs.Reading.{Order, pixel_size, line_start, code_in_pixel, pixel_codes, line_codes, codes_in_file}
 use Rattle.dpx_file.specs.Writing.{header_rows}
 use Rattle.dpx_file.specs.Law.{CodesStand, FieldsInPlace}
 use Rattle.dpx_file.proofs.CodeLemmas.{length_pixel, length_line}
@@ -43,7 +43,7 @@ code_of_line order depth packing width bytes x c within below =
     ∙ ap (λ (k : ℕ). get_or (f k) c 0) e ∙ code_of_pixel order depth packing (drop (x * pixel_size depth) bytes) c below
 
 pub codes_stand_lem : CodesStand
-unfolding codes_of
+unfolding codes_in_file
 codes_stand_lem order l file y x c below within channel =
     let f : ℕ → List ℕ = λ k. line_codes order l.depth l.packing l.width (drop (line_start l k) file) in
     let e : 0 + y ≡ y = omega arith in

@@ -9,9 +9,9 @@ use Rattle.std.proofs.Math.Seq.{take-add}
 use Rattle.std.proofs.lemmas.List.{append-nil, drop-drop, drop_at, take_at, take_all, take-append-drop, length-take-le, length-drop, length-replicate, drop_all}
 use Rattle.byteorder.specs.Endian.{big_number}
 use Rattle.byteorder.specs.Numbers.{length-bytes_high_first}
-use Rattle.dpx_file.specs.Plain.{PlainImage, IsImage, IsSize, IsDepth, CodesFit, blank, line_of, replaced, with_line}
+use Rattle.dpx_file.specs.Plain.{PlainImage, IsImage, IsImageSize, IsBitDepth, CodesFit, blank, codes_of_line, replaced, with_line}
 use Rattle.dpx_file.specs.Fields.{header_size}
-use Rattle.dpx_file.specs.Reading.{pixel_size, line_codes, line_start, codes_of}
+use Rattle.dpx_file.specs.Reading.{pixel_size, line_codes, line_start, codes_in_file}
 use Rattle.dpx_file.specs.Writing.{Row, row_bytes, header_rows, header, pixels, dpx_writing}
 use Rattle.dpx_file.specs.Canvas.{written_packing, written_layout, shown_codes, shown, IsWritten}
 use Rattle.dpx_file.proofs.LineLemmas.{lines_below, lines_all, lines_none, lines_next}
@@ -81,7 +81,7 @@ lines_back image head is len (suc y) within =
     ∙ ap (λ (x : List ℕ). take (3 * w * y) image.codes ++ x) this ∙ sym (take-add (3 * w * y) (3 * w) image.codes) ∙ ap (λ (n : ℕ). take n image.codes) (sym next))
 
 pub codes_back : (image : PlainImage) (head : List ℕ) → IsImage image → length head ≡ 2048
-    → codes_of big_number (written_layout image.width image.height image.depth) (head ++ pixels image.depth image.codes) ≡ image.codes
+    → codes_in_file big_number (written_layout image.width image.height image.depth) (head ++ pixels image.depth image.codes) ≡ image.codes
 codes_back image head is len =
     let l = written_layout image.width image.height image.depth in
     sym (lines_all big_number l (head ++ pixels image.depth image.codes)) ∙ lines_back image head is len image.height (le_refl image.height)
@@ -191,7 +191,7 @@ put_codes image bytes ys part m n i a k is e ei ey room ea ek ep =
 
 -- ---- what the calls do
 
-pub IsImage-blank : (width height depth : ℕ) → IsSize width height → IsDepth depth → IsImage (blank width height depth)
+pub IsImage-blank : (width height depth : ℕ) → IsImageSize width height → IsBitDepth depth → IsImage (blank width height depth)
 IsImage-blank width height depth size is = record {
   size = size;
   depth = is;
@@ -200,7 +200,7 @@ IsImage-blank width height depth size is = record {
 }
 
 -- a header and then zeros
-pub blank_written : (width height depth size count : ℕ) (out new : List ℕ) → IsDepth depth → size ≡ 2048 + height * (width * pixel_size depth)
+pub blank_written : (width height depth size count : ℕ) (out new : List ℕ) → IsBitDepth depth → size ≡ 2048 + height * (width * pixel_size depth)
     → out ≡ flat_map row_bytes (header_rows size width height depth) → count ≡ length out → new ≡ take size out ++ replicate (size - count) 0
     → new ≡ dpx_writing (blank width height depth)
 unfolding dpx_writing header
@@ -243,7 +243,7 @@ module _ (width height depth : ℕ) (bytes : List ℕ) (is : IsWritten width hei
   line_put_image ys ey fit = let within = line_within in IsImage-replaced line_image (3 * width * y) ys is.image fit (omega arith)
 
   pub line_read : (start packing : ℕ) → start ≡ 2048 + y * (width * pixel_size depth) → packing ≡ written_packing depth
-      → line_codes big_number depth packing width (drop start bytes) ≡ line_of line_image y
+      → line_codes big_number depth packing width (drop start bytes) ≡ codes_of_line line_image y
   unfolding dpx_writing
   line_read start packing es epk =
       let l = written_layout width height depth in

@@ -3,7 +3,7 @@ use Rattle.std.specs.Prelude.{◌≡◌, ℕ, ◌+◌, ◌*◌, ◌==◌, if◌t
 use Rattle.byteorder.specs.Endian.{big_number}
 use Rattle.dpx_file.specs.Plain.{PlainImage, IsImage}
 use Rattle.dpx_file.specs.Fields.{header_size}
-use Rattle.dpx_file.specs.Reading.{Layout, pixel_size, codes_of}
+use Rattle.dpx_file.specs.Reading.{Layout, pixel_size, codes_in_file}
 use Rattle.dpx_file.specs.Writing.{dpx_writing}
 
 -- The packing of the written form.
@@ -17,7 +17,7 @@ written_layout width height depth =
 
 -- The codes that these bytes show.
 unfoldable pub shown_codes : ℕ → ℕ → ℕ → List ℕ → List ℕ
-shown_codes width height depth bytes = codes_of big_number (written_layout width height depth) bytes
+shown_codes width height depth bytes = codes_in_file big_number (written_layout width height depth) bytes
 
 -- The image that these bytes show.
 abbrev pub shown : ℕ → ℕ → ℕ → List ℕ → PlainImage

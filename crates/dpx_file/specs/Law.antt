@@ -2,7 +2,7 @@
 use Rattle.std.specs.Prelude.{◌≡◌, ℕ, ◌+◌, ◌*◌, ◌<◌, ◌==◌, Bool, ◌&&◌, IsTrue, List, [], ◌∷◌, slice_index, drop, Ok}
 use Rattle.dpx_file.specs.Plain.{PlainImage, IsImage}
 use Rattle.dpx_file.specs.Fields.{header_size}
-use Rattle.dpx_file.specs.Reading.{Order, Layout, pixel_size, line_start, code_in_pixel, codes_of, dpx_reading}
+use Rattle.dpx_file.specs.Reading.{Order, Layout, pixel_size, line_start, code_in_pixel, codes_in_file, dpx_reading}
 use Rattle.dpx_file.specs.Writing.{Row, header_rows, dpx_writing}
 
 -- What is written for an image reads as that image.
@@ -13,7 +13,7 @@ ReadsBack = (image : PlainImage) → IsImage image → dpx_reading (dpx_writing 
 abbrev pub CodesStand : Type 0
 CodesStand =
     (order : Order) (l : Layout) (file : List ℕ) (y x c : ℕ) → y < l.height → x < l.width → c < 3
-    → slice_index (codes_of order l file) (3 * l.width * y + (3 * x + c))
+    → slice_index (codes_in_file order l file) (3 * l.width * y + (3 * x + c))
     ≡ code_in_pixel order l.depth l.packing (drop (line_start l y + x * pixel_size l.depth) file) c
 
 -- From byte i on each row stands at the byte of its field, and the last ends with the header.

@@ -1,8 +1,10 @@
-pub mod Plain
 pub mod Fields
-pub mod Reading
-pub mod Writing
-pub mod Answers
-pub mod Rows
-pub mod Canvas
 pub mod Law
+pub mod Plain
+pub mod Reading
+pub mod Refusal
+pub mod Writing
+-- Means of the code and its proofs, which no public contract cites.
+pub mod Canvas
+pub mod Kept
+pub mod Rows

@@ -2,21 +2,12 @@
 use Rattle.std.specs.Prelude.{ℕ, ◌+◌, ◌-◌, ◌*◌, ◌/◌, ◌%◌, ◌^◌, ◌==◌, nat_eq, nat_le, Bool, ◌&&◌, ◌||◌, if◌then◌else◌, List, [], ◌∷◌, length, drop, map, codes, Result, Ok, Err}
 use Rattle.std.specs.List.{flat_map, range_with_len, starts_with}
 use Rattle.byteorder.specs.Endian.{big_number, little_number}
+use Rattle.ctl_base.specs.Answers.{◌>>=◌, ◌>>◌}
+use Rattle.ctl_base.specs.declared.limits.TheConstants.{SIDE, PIXELS}
 use Rattle.dpx_file.specs.declared.fault.DpxFault.{DpxFault}
 use Rattle.dpx_file.specs.declared.fault.DpxFault.TheVariants.{NotDpx, Truncated, Encrypted, Orientation, Elements, Size, Sign, Descriptor, Depth, Packing, Compressed}
 use Rattle.dpx_file.specs.Plain.{PlainImage}
-use Rattle.dpx_file.specs.Fields.{Field, header_size, encryption_key, offset_to_image_data, image_orientation, number_of_image_elements, pixels_per_line, lines_per_image_element, data_sign, descriptor, bit_size, packing, encoding, offset_to_data, end_of_line_padding}
-
--- ---- steps that may find a fault
-
-infixl 10 ◌>>=◌
-abbrev pub ◌>>=◌ : {A B : Type 0} → Result A DpxFault → (A → Result B DpxFault) → Result B DpxFault
-(Ok x) >>= f = f x
-(Err e) >>= f = Err e
-
-infixl 10 ◌>>◌
-abbrev pub ◌>>◌ : {A B : Type 0} → Result A DpxFault → Result B DpxFault → Result B DpxFault
-r >> s = r >>= (λ _. s)
+use Rattle.dpx_file.specs.Fields.{HeaderField, header_size, encryption_key, offset_to_image_data, image_orientation, number_of_image_elements, pixels_per_line, lines_per_image_element, data_sign, descriptor, bit_size, packing, encoding, offset_to_data, end_of_line_padding}
 
 -- The fault, unless the test holds.
 abbrev pub unless : Bool → DpxFault → Result (Unit {0}) DpxFault
@@ -29,8 +20,8 @@ abbrev pub Order : Type 0
 Order = ℕ → List ℕ → ℕ
 
 -- The number in the bytes of a field.
-abbrev pub number : Order → Field → List ℕ → ℕ
-number order f file = order f.size (drop f.at file)
+abbrev pub number_at : Order → HeaderField → List ℕ → ℕ
+number_at order f file = order f.size (drop f.at file)
 
 -- A number of so many bytes is 0 or all ones. The standard writes all ones where a field has no value, and here 0 is
 -- read like it.
@@ -57,19 +48,19 @@ pub record Header : Type 0 where
 -- The fields of a file, those of an image element for element 0. No other field is looked at.
 unfoldable pub header_of : Order → List ℕ → Header
 header_of order file = record {
-  encryption_key = number order encryption_key file;
-  image_orientation = number order image_orientation file;
-  number_of_image_elements = number order number_of_image_elements file;
-  pixels_per_line = number order pixels_per_line file;
-  lines_per_image_element = number order lines_per_image_element file;
-  data_sign = number order (data_sign 0) file;
-  descriptor = number order (descriptor 0) file;
-  bit_size = number order (bit_size 0) file;
-  packing = number order (packing 0) file;
-  encoding = number order (encoding 0) file;
-  offset_to_data = number order (offset_to_data 0) file;
-  offset_to_image_data = number order offset_to_image_data file;
-  end_of_line_padding = number order (end_of_line_padding 0) file;
+  encryption_key = number_at order encryption_key file;
+  image_orientation = number_at order image_orientation file;
+  number_of_image_elements = number_at order number_of_image_elements file;
+  pixels_per_line = number_at order pixels_per_line file;
+  lines_per_image_element = number_at order lines_per_image_element file;
+  data_sign = number_at order (data_sign 0) file;
+  descriptor = number_at order (descriptor 0) file;
+  bit_size = number_at order (bit_size 0) file;
+  packing = number_at order (packing 0) file;
+  encoding = number_at order (encoding 0) file;
+  offset_to_data = number_at order (offset_to_data 0) file;
+  offset_to_image_data = number_at order offset_to_image_data file;
+  end_of_line_padding = number_at order (end_of_line_padding 0) file;
 }
 
 -- ---- where the pixels stand
@@ -128,8 +119,8 @@ line_codes order depth packing width bytes =
     flat_map (λ x. pixel_codes order depth packing (drop (x * pixel_size depth) bytes)) (range_with_len 0 width)
 
 -- The codes of all pixels of a file, line after line.
-unfoldable pub codes_of : Order → Layout → List ℕ → List ℕ
-codes_of order l file =
+unfoldable pub codes_in_file : Order → Layout → List ℕ → List ℕ
+codes_in_file order l file =
     flat_map (λ y. line_codes order l.depth l.packing l.width (drop (line_start l y) file)) (range_with_len 0 l.height)
 
 -- ---- the rules, in the order in which they are looked at
@@ -143,7 +134,7 @@ byte_order file =
 -- The sizes that are read.
 unfoldable pub is_size : ℕ → ℕ → Bool
 is_size width height =
-    nat_le 1 width && nat_le width 16384 && nat_le 1 height && nat_le height 16384 && nat_le (width * height) (2 ^ 26)
+    nat_le 1 width && nat_le width SIDE && nat_le 1 height && nat_le height SIDE && nat_le (width * height) PIXELS
 
 -- The ways of packing that are read. At sixteen bits they are all one.
 unfoldable pub is_packing : ℕ → ℕ → Bool
@@ -179,8 +170,8 @@ layout_of h = do
   })
 
 -- The image whose pixels stand so in a file.
-abbrev pub image_of : Order → Layout → List ℕ → PlainImage
-image_of order l file = record { width = l.width; height = l.height; depth = l.depth; codes = codes_of order l file }
+abbrev pub image_in_file : Order → Layout → List ℕ → PlainImage
+image_in_file order l file = record { width = l.width; height = l.height; depth = l.depth; codes = codes_in_file order l file }
 
 -- What a file reads as in a known byte order.
 unfoldable pub reading_in : Order → List ℕ → Result PlainImage DpxFault
@@ -188,7 +179,7 @@ reading_in order file = do
   unless (nat_le header_size (length file)) (Truncated header_size (length file))
   l ← layout_of (header_of order file)
   unless (nat_le (bytes_needed l) (length file)) (Truncated (bytes_needed l) (length file))
-  Ok (image_of order l file)
+  Ok (image_in_file order l file)
 
 -- What a file reads as.
 unfoldable pub dpx_reading : List ℕ → Result PlainImage DpxFault

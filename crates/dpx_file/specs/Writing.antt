@@ -3,18 +3,18 @@ use Rattle.std.specs.Prelude.{ℕ, ◌+◌, ◌-◌, ◌*◌, ◌^◌, ◌==◌,
 use Rattle.std.specs.List.{flat_map, range_with_len}
 use Rattle.byteorder.specs.Endian.{big_bytes}
 use Rattle.dpx_file.specs.Plain.{PlainImage}
-use Rattle.dpx_file.specs.Fields.{Field, header_size, magic_number, offset_to_image_data, version_number_of_header_format, total_image_file_size, ditto_key, generic_section_header_length, industry_specific_header_length, user_defined_header_length, image_file_name, creation_date_and_time, creator, project_name, right_to_use_or_copyright_statement, encryption_key, reserved_of_file_information, image_orientation, number_of_image_elements, pixels_per_line, lines_per_image_element, data_sign, reference_low_data_code_value, reference_low_quantity_represented, reference_high_data_code_value, reference_high_quantity_represented, descriptor, transfer_characteristic, colorimetric_specification, bit_size, packing, encoding, offset_to_data, end_of_line_padding, end_of_image_padding, description_of_image_element, reserved_of_image_information, x_offset, y_offset, x_center, y_center, x_original_size, y_original_size, source_image_file_name, source_image_date_and_time, input_device_name, input_device_serial_number, border_validity, pixel_aspect_ratio, reserved_of_image_orientation, film_manufacturer_id_code, film_type, offset_in_perfs, prefix, count, format, frame_position_in_sequence, sequence_length, held_count, frame_rate_of_original, shutter_angle_of_camera, frame_identification, slate_information, reserved_of_film, smpte_time_code, smpte_user_bits, interlace, field_number, video_signal_standard, zero_of_television, horizontal_sampling_rate, vertical_sampling_rate, temporal_sampling_rate, time_offset_from_sync_to_first_pixel, gamma_value, black_level_code_value, black_gain, breakpoint, reference_white_level_code_value, integration_times, reserved_of_television}
+use Rattle.dpx_file.specs.Fields.{HeaderField, header_size, magic_number, offset_to_image_data, version_number_of_header_format, total_image_file_size, ditto_key, generic_section_header_length, industry_specific_header_length, user_defined_header_length, image_file_name, creation_date_and_time, creator, project_name, right_to_use_or_copyright_statement, encryption_key, reserved_of_file_information, image_orientation, number_of_image_elements, pixels_per_line, lines_per_image_element, data_sign, reference_low_data_code_value, reference_low_quantity_represented, reference_high_data_code_value, reference_high_quantity_represented, descriptor, transfer_characteristic, colorimetric_specification, bit_size, packing, encoding, offset_to_data, end_of_line_padding, end_of_image_padding, description_of_image_element, reserved_of_image_information, x_offset, y_offset, x_center, y_center, x_original_size, y_original_size, source_image_file_name, source_image_date_and_time, input_device_name, input_device_serial_number, border_validity, pixel_aspect_ratio, reserved_of_image_orientation, film_manufacturer_id_code, film_type, offset_in_perfs, prefix, count, format, frame_position_in_sequence, sequence_length, held_count, frame_rate_of_original, shutter_angle_of_camera, frame_identification, slate_information, reserved_of_film, smpte_time_code, smpte_user_bits, interlace, field_number, video_signal_standard, zero_of_television, horizontal_sampling_rate, vertical_sampling_rate, temporal_sampling_rate, time_offset_from_sync_to_first_pixel, gamma_value, black_level_code_value, black_gain, breakpoint, reference_white_level_code_value, integration_times, reserved_of_television}
 
 -- A field with the number that is written there.
 abbrev pub Row : Type 0
-Row = Field × ℕ
+Row = HeaderField × ℕ
 
 -- All ones, as the standard writes a number that has no value.
-abbrev pub undefined : Field → Row
+abbrev pub undefined : HeaderField → Row
 undefined f = (f, 256 ^ f.size - 1)
 
 -- All zeros, as an empty text is written.
-abbrev pub empty : Field → Row
+abbrev pub empty : HeaderField → Row
 empty f = (f, 0)
 
 -- The bytes of a row, most significant byte first.

@@ -1,7 +1,7 @@
 //! The file of an image that is put line by line.
 
 ghost use Rattle.std.specs.Prelude.{◌≡◌, ◌*◌, ◌<◌, IfOk, length};
-ghost use Rattle.dpx_file.specs.Plain.{IsSize, IsDepth, IsImage, CodesFit, blank, line_of, with_line};
+ghost use Rattle.dpx_file.specs.Plain.{IsImageSize, IsBitDepth, IsImage, CodesFit, blank, codes_of_line, with_line};
 ghost use Rattle.dpx_file.specs.Writing.{dpx_writing};
 
 use crate::file::{blank_file, line_size, line_start};
@@ -34,8 +34,8 @@ impl Model for Canvas {
 impl Canvas {
     /// The file of an image in which every code is 0.
     pub fn begin(alloc: Global, width: u32, height: u32, depth: u8) -> Result<Canvas, Memory>
-        requires size { IsSize width height }
-        requires depth { IsDepth depth }
+        requires size { IsImageSize width height }
+        requires depth { IsBitDepth depth }
         ensures { IfOk result (λ c. c ≡ blank width height depth) }
     {
         let bytes = blank_file(alloc, width, height, depth)?;
@@ -87,7 +87,7 @@ impl Canvas {
     pub fn line(&self, y: u32, out: &mut [u16])
         requires line { y < self.now.height }
         requires count { length out.old ≡ 3 * self.now.width }
-        ensures { out.new ≡ line_of self.now y }
+        ensures { out.new ≡ codes_of_line self.now y }
     {
         let at = line_start(self.width, self.depth, y);
         let packing = written_packing(self.depth);

@@ -1,7 +1,7 @@
 //! Why a file does not read as an image.
 
 ghost use Rattle.std.specs.Prelude.{◌≡◌};
-ghost use Rattle.dpx_file.specs.declared.fault.ReadFault.TheVariants.{Dpx, Memory};
+ghost use Rattle.dpx_file.specs.declared.fault.ReadError.TheVariants.{Dpx, Memory};
 
 use ctl_base::Memory as NoMemory;
 use thiserror::Error;
@@ -47,25 +47,25 @@ pub enum DpxFault {
 
 /// Why an image could not be read.
 #[derive(Clone, Copy, Debug, PartialEq, Eq)]
-pub enum ReadFault {
+pub enum ReadError {
     /// The file breaks a rule.
     Dpx(DpxFault),
     /// Want of memory.
     Memory,
 }
 
-impl From<DpxFault> for ReadFault {
+impl From<DpxFault> for ReadError {
     ghost from_gives = { λ fault e. e ≡ Dpx fault };
 
-    fn from(fault: DpxFault) -> ReadFault {
-        ReadFault::Dpx(fault)
+    fn from(fault: DpxFault) -> ReadError {
+        ReadError::Dpx(fault)
     }
 }
 
-impl From<NoMemory> for ReadFault {
+impl From<NoMemory> for ReadError {
     ghost from_gives = { λ _ e. e ≡ Memory };
 
-    fn from(_: NoMemory) -> ReadFault {
-        ReadFault::Memory
+    fn from(_: NoMemory) -> ReadError {
+        ReadError::Memory
     }
 }

@@ -4,7 +4,7 @@ ghost use Rattle.std.specs.Prelude.{◌≡◌, ◌+◌, ◌*◌, ◌^◌, ◌<�
 ghost use Rattle.std.specs.Int.{byte_at};
 ghost use Rattle.std.specs.List.{flat_map, range_with_len};
 ghost use Rattle.byteorder.specs.Endian.{big_bytes};
-ghost use Rattle.dpx_file.specs.Plain.{IsDepth};
+ghost use Rattle.dpx_file.specs.Plain.{IsBitDepth};
 ghost use Rattle.dpx_file.specs.Rows.{plain, sized, bytes_of};
 ghost use Rattle.dpx_file.specs.Writing.{row_bytes, header_rows, file_information, image_information, first_element, unused_element, orientation_header, film_header, television_header};
 
@@ -82,7 +82,7 @@ fn image_rows(width: u32, height: u32) -> [FieldValue; 4]
 }
 
 fn first_element_rows(depth: u8) -> [FieldValue; 15]
-    requires { IsDepth depth }
+    requires { IsBitDepth depth }
     ensures { map plain result ≡ map sized (first_element depth) }
 {
     let packing = written_packing(depth) as u64;
@@ -212,7 +212,7 @@ fn put_field(out: &mut Vec<u8>, field: FieldValue) -> Result<(), Memory>
     ensures { OnOk result (out.new.items ≡ out.old.items ++ bytes_of field) }
 {
     let mut left = field.size;
-    while left > 0 {
+    'bytes: while left > 0 {
         left -= 1;
         out.push(byte_of(field.number, left))?;
     }
@@ -222,7 +222,7 @@ fn put_field(out: &mut Vec<u8>, field: FieldValue) -> Result<(), Memory>
 fn put_fields(out: &mut Vec<u8>, fields: &[FieldValue]) -> Result<(), Memory>
     ensures { OnOk result (out.new.items ≡ out.old.items ++ flat_map bytes_of fields.now) }
 {
-    for field in fields {
+    'rows: for field in fields {
         put_field(out, *field)?;
     }
     Ok(())
@@ -245,7 +245,7 @@ pub fn put_header(
     height: u32,
     depth: u8,
 ) -> Result<(), Memory>
-    requires { IsDepth depth }
+    requires { IsBitDepth depth }
     ensures { OnOk result (out.new.items ≡ out.old.items ++ flat_map row_bytes (header_rows file_size width height depth)) }
 {
     put_fields(out, &file_rows(file_size))?;

@@ -26,7 +26,7 @@ impl Model for Image {
 }
 
 impl Image {
-    ghost use Rattle.dpx_file.specs.Plain.{IsImage, line_of};
+    ghost use Rattle.dpx_file.specs.Plain.{IsImage, codes_of_line};
 
     /// The image of these codes.
     pub fn new(width: u32, height: u32, depth: u8, codes: CodeList) -> Image
@@ -76,7 +76,7 @@ impl Image {
     /// The codes of line y, counted from 0.
     pub fn line(&self, y: u32) -> &[u16]
         requires { y < self.now.height }
-        ensures value { result.now ≡ line_of self.now y }
+        ensures value { result.now ≡ codes_of_line self.now y }
         ensures valid { IsImage self.now }
     {
         let codes = 3 * self.width as usize;

@@ -1,8 +1,9 @@
 //! What the header says of the pixels.
 
 ghost use Rattle.std.specs.Prelude.{◌≡◌, ◌+◌, ◌*◌, ◌-◌, ◌^◌, ◌<◌, ◌≤◌, IfOk, ◌==◌, ◌||◌, length};
-ghost use Rattle.dpx_file.specs.Answers.{Reads, plain_header, plain_layout};
-ghost use Rattle.dpx_file.specs.Plain.{IsSize, IsDepth};
+ghost use Rattle.ctl_base.specs.Answers.{Gives};
+ghost use Rattle.dpx_file.specs.Kept.{plain_header, plain_layout};
+ghost use Rattle.dpx_file.specs.Plain.{IsImageSize, IsBitDepth};
 ghost use Rattle.dpx_file.specs.Reading.{header_of, layout_of as told_by, is_unset as unset, is_size as within, is_packing as known_packing, start_of_pixels as start_of, padding_of as padded, line_size, line_start, bytes_needed};
 
 use crate::fault::DpxFault;
@@ -164,9 +165,9 @@ pub fn read_header<T: ByteOrder>(bytes: &[u8]) -> Header
 /// The layout that a header tells, or the fault of the first rule that it breaks.
 #[tactic(auto, unfolding(crate::specs::Reading::layout_of))]
 pub fn layout_of(h: &Header) -> Result<Layout, DpxFault>
-    ensures exact { Reads plain_layout result (told_by (plain_header h.now)) }
-    ensures size { IfOk result (λ l. IsSize l.width l.height) }
-    ensures depth { IfOk result (λ l. IsDepth l.depth) }
+    ensures exact { Gives plain_layout (λ claim fault. claim fault) result (told_by (plain_header h.now)) }
+    ensures size { IfOk result (λ l. IsImageSize l.width l.height) }
+    ensures depth { IfOk result (λ l. IsBitDepth l.depth) }
 {
     if !is_unset(h.encryption_key) {
         return Err(DpxFault::Encrypted);
@@ -209,7 +210,7 @@ pub fn layout_of(h: &Header) -> Result<Layout, DpxFault>
 impl Layout {
     // Bytes of a line without its padding.
     fn line_size(&self) -> u64
-        requires size { IsSize self.now.width self.now.height }
+        requires size { IsImageSize self.now.width self.now.height }
         ensures { result ≡ line_size (plain_layout self.now) }
     {
         self.width as u64 * pixel_size(self.depth) as u64
@@ -217,7 +218,7 @@ impl Layout {
 
     /// The byte at which line y begins.
     pub fn line_start(&self, y: u32) -> u64
-        requires size { IsSize self.now.width self.now.height }
+        requires size { IsImageSize self.now.width self.now.height }
         requires line { y < self.now.height }
         ensures { result ≡ line_start (plain_layout self.now) y }
     {
@@ -226,7 +227,7 @@ impl Layout {
 
     /// The bytes that a file must have.
     pub fn bytes_needed(&self) -> u64
-        requires size { IsSize self.now.width self.now.height }
+        requires size { IsImageSize self.now.width self.now.height }
         ensures { result ≡ bytes_needed (plain_layout self.now) }
     {
         self.offset as u64

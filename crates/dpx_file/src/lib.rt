@@ -17,7 +17,7 @@ mod writing;
 
 pub use canvas::Canvas;
 pub use codes::CodeList;
-pub use fault::{DpxFault, ReadFault};
+pub use fault::{DpxFault, ReadError};
 pub use image::Image;
 pub use law::{codes_stand, fields_in_place, reads_back};
 pub use reading::read;

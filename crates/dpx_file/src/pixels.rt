@@ -2,7 +2,7 @@
 
 ghost use Rattle.std.specs.Prelude.{◌≡◌, ◌+◌, ◌*◌, ◌/◌, ◌%◌, ◌^◌, ◌<◌, ◌≤◌, ◌==◌, if◌then◌else◌, length};
 ghost use Rattle.dpx_file.specs.Canvas.{written_packing as packing_of};
-ghost use Rattle.dpx_file.specs.Plain.{IsDepth, CodesFit};
+ghost use Rattle.dpx_file.specs.Plain.{IsBitDepth, CodesFit};
 ghost use Rattle.dpx_file.specs.Reading.{line_codes, pixel_size as size_of};
 ghost use Rattle.dpx_file.specs.Writing.{ten_bit_words, pixels};
 
@@ -70,7 +70,7 @@ fn decode_sixteen<T: ByteOrder>(packing: u16, width: u32, line: &[u8], out: &mut
 
 /// Copies the codes of a line, whose bytes begin the slice.
 pub fn decode<T: ByteOrder>(depth: u8, packing: u16, width: u32, line: &[u8], out: &mut [u16])
-    requires depth { IsDepth depth }
+    requires depth { IsBitDepth depth }
     requires room { width * size_of depth ≤ length line.now }
     requires count { length out.old ≡ 3 * width }
     ensures { out.new ≡ line_codes T.number_of depth packing width line.now }
@@ -107,7 +107,7 @@ fn encode_ten(codes: &[u16], out: &mut [u8])
 /// Writes codes, three a pixel.
 #[tactic(auto, unfolding(crate::specs::Writing::pixels))]
 pub fn encode(depth: u8, codes: &[u16], out: &mut [u8])
-    requires depth { IsDepth depth }
+    requires depth { IsBitDepth depth }
     requires count { 3 * length out.old ≡ size_of depth * length codes.now }
     requires fit { CodesFit depth codes.now }
     ensures { out.new ≡ pixels depth codes.now }

@@ -1,12 +1,14 @@
 //! Reading.
 
 ghost use Rattle.std.specs.Prelude.{◌≡◌, ◌*◌, ◌≤◌, IfOk, length};
-ghost use Rattle.dpx_file.specs.Answers.{Gives, plain_header, plain_layout};
-ghost use Rattle.dpx_file.specs.Plain.{IsSize, IsDepth};
-ghost use Rattle.dpx_file.specs.Reading.{bytes_needed, codes_of, reading_in, dpx_reading};
+ghost use Rattle.ctl_base.specs.Answers.{Gives};
+ghost use Rattle.dpx_file.specs.Kept.{plain_header, plain_layout};
+ghost use Rattle.dpx_file.specs.Plain.{IsImageSize, IsBitDepth};
+ghost use Rattle.dpx_file.specs.Reading.{bytes_needed, codes_in_file, reading_in, dpx_reading};
+ghost use Rattle.dpx_file.specs.Refusal.{read_refusal};
 
 use crate::codes::CodeList;
-use crate::fault::{DpxFault, ReadFault};
+use crate::fault::{DpxFault, ReadError};
 use crate::header::HEADER_SIZE;
 use crate::image::Image;
 use crate::layout::{Header, Layout, layout_of, read_header};
@@ -17,11 +19,11 @@ use std::alloc::Global;
 
 // Copies the codes of all lines.
 fn decode_lines<T: ByteOrder>(layout: &Layout, bytes: &[u8], out: &mut [u16])
-    requires size { IsSize layout.now.width layout.now.height }
-    requires depth { IsDepth layout.now.depth }
+    requires size { IsImageSize layout.now.width layout.now.height }
+    requires depth { IsBitDepth layout.now.depth }
     requires room { bytes_needed (plain_layout layout.now) ≤ length bytes.now }
     requires count { length out.old ≡ 3 * layout.now.width * layout.now.height }
-    ensures { out.new ≡ codes_of T.number_of (plain_layout layout.now) bytes.now }
+    ensures { out.new ≡ codes_in_file T.number_of (plain_layout layout.now) bytes.now }
 {
     let codes = 3 * layout.width as usize;
     'lines: for y in 0..layout.height {
@@ -42,10 +44,10 @@ fn read_codes<T: ByteOrder>(
     layout: &Layout,
     bytes: &[u8],
 ) -> Result<CodeList, Memory>
-    requires size { IsSize layout.now.width layout.now.height }
-    requires depth { IsDepth layout.now.depth }
+    requires size { IsImageSize layout.now.width layout.now.height }
+    requires depth { IsBitDepth layout.now.depth }
     requires room { bytes_needed (plain_layout layout.now) ≤ length bytes.now }
-    ensures { IfOk result (λ v. v ≡ codes_of T.number_of (plain_layout layout.now) bytes.now) }
+    ensures { IfOk result (λ v. v ≡ codes_in_file T.number_of (plain_layout layout.now) bytes.now) }
 {
     let count = 3 * layout.width as usize * layout.height as usize;
     let mut codes = vec![in alloc; 0u16; count]?;
@@ -55,18 +57,18 @@ fn read_codes<T: ByteOrder>(
 
 // What a file reads as in a known byte order.
 #[tactic(auto, unfolding(crate::specs::Reading::reading_in))]
-fn read_in<T: ByteOrder>(alloc: Global, bytes: &[u8]) -> Result<Image, ReadFault>
-    ensures { Gives result (reading_in T.number_of bytes.now) }
+fn read_in<T: ByteOrder>(alloc: Global, bytes: &[u8]) -> Result<Image, ReadError>
+    ensures { Gives (λ image. image) read_refusal result (reading_in T.number_of bytes.now) }
 {
     let need = HEADER_SIZE as u64;
     let have = bytes.len() as u64;
     if have < need {
-        return Err(ReadFault::Dpx(DpxFault::Truncated { need, have }));
+        return Err(ReadError::Dpx(DpxFault::Truncated { need, have }));
     }
     let layout = layout_of(&read_header::<T>(bytes))?;
     let need = layout.bytes_needed();
     if have < need {
-        return Err(ReadFault::Dpx(DpxFault::Truncated { need, have }));
+        return Err(ReadError::Dpx(DpxFault::Truncated { need, have }));
     }
     let codes = read_codes::<T>(alloc, &layout, bytes)?;
     Ok(Image::new(layout.width, layout.height, layout.depth, codes))
@@ -74,8 +76,8 @@ fn read_in<T: ByteOrder>(alloc: Global, bytes: &[u8]) -> Result<Image, ReadFault
 
 /// The image that a file reads as, or the first rule that it breaks.
 #[tactic(auto, unfolding(crate::specs::Reading::dpx_reading))]
-pub fn read(alloc: Global, bytes: &[u8]) -> Result<Image, ReadFault>
-    ensures { Gives result (dpx_reading bytes.now) }
+pub fn read(alloc: Global, bytes: &[u8]) -> Result<Image, ReadError>
+    ensures { Gives (λ image. image) read_refusal result (dpx_reading bytes.now) }
 {
     if bytes.starts_with(b"SDPX") {
         return read_in::<BigEndian>(alloc, bytes);
@@ -83,5 +85,5 @@ pub fn read(alloc: Global, bytes: &[u8]) -> Result<Image, ReadFault>
     if bytes.starts_with(b"XPDS") {
         return read_in::<LittleEndian>(alloc, bytes);
     }
-    Err(ReadFault::Dpx(DpxFault::NotDpx))
+    Err(ReadError::Dpx(DpxFault::NotDpx))
 }

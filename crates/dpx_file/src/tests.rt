@@ -5,8 +5,8 @@ use byteorder::{BigEndian, ByteOrder, LittleEndian};
 use std::alloc::{AllocError, Global};
 use std::test::*;
 
-// The header of one pixel of ten bits as runs of equal bytes, printed by `tools/dpx_header.py 1 1 10`.
-const ONE_PIXEL: [(usize, u8); 65] = [
+// The header of one pixel of ten bits as runs of equal bytes.
+static ONE_PIXEL: [(usize, u8); 65] = [
     (1, 0x53),
     (1, 0x44),
     (1, 0x50),
@@ -74,8 +74,8 @@ const ONE_PIXEL: [(usize, u8); 65] = [
     (76, 0x00),
 ];
 
-// The same for three pixels by two of sixteen bits, printed by `tools/dpx_header.py 3 2 16`.
-const SIX_PIXELS: [(usize, u8); 62] = [
+// The same for three pixels by two of sixteen bits.
+static SIX_PIXELS: [(usize, u8); 62] = [
     (1, 0x53),
     (1, 0x44),
     (1, 0x50),
@@ -203,7 +203,7 @@ fn is_written(alloc: Global, bytes: &[u8], written: &[u8]) -> bool {
     }
 }
 
-fn fault_of(alloc: Global, bytes: &[u8]) -> Option<ReadFault> {
+fn fault_of(alloc: Global, bytes: &[u8]) -> Option<ReadError> {
     read(alloc, bytes).err()
 }
 
@@ -257,16 +257,16 @@ fn each_code_returns(rt: HostRuntime) -> Result<(), AllocError> {
     Ok(())
 }
 
-const SIX_LITTLE: [u8; 38] = [
+static SIX_LITTLE: [u8; 38] = [
     0, 0, 1, 0, 2, 0, 0, 1, 0xFF, 0xFF, 0x34, 0x12, 7, 0, 8, 0, 9, 0, 0xAA, 0xBB, 1, 0, 1, 0, 1, 0,
     1, 0, 1, 0, 1, 0, 1, 0, 1, 0, 1, 0,
 ];
 
-const SIX_CODES: [u16; 18] = [
+static SIX_CODES: [u16; 18] = [
     0, 1, 2, 0x100, 0xFFFF, 0x1234, 7, 8, 9, 1, 1, 1, 1, 1, 1, 1, 1, 1,
 ];
 
-const SIX_BIG: [u8; 36] = [
+static SIX_BIG: [u8; 36] = [
     0, 0, 0, 1, 0, 2, 1, 0, 0xFF, 0xFF, 0x12, 0x34, 0, 7, 0, 8, 0, 9, 0, 1, 0, 1, 0, 1, 0, 1, 0, 1,
     0, 1, 0, 1, 0, 1, 0, 1,
 ];
@@ -296,8 +296,63 @@ fn sixteen_bits_are_read_and_written(rt: HostRuntime) -> Result<(), AllocError> 
     Ok(())
 }
 
+// Two lines of two pixels of ten bits by method B, with a word of padding behind the first line.
+static PADDED_WORDS: [u32; 5] = [
+    0x0010_0803,
+    0x3FF0_0200,
+    0xAAAA_AAAA,
+    0x0040_1406,
+    0x007F_A009,
+];
+
+static PADDED_CODES: [u16; 12] = [1, 2, 3, 1023, 0, 512, 4, 5, 6, 7, 1000, 9];
+
+// The same codes by method A, most significant byte first.
+static PADDED_WRITTEN: [u8; 16] = [
+    0x00, 0x40, 0x20, 0x0C, 0xFF, 0xC0, 0x08, 0x00, 0x01, 0x00, 0x50, 0x18, 0x01, 0xFE, 0x80, 0x24,
+];
+
+// The file of these words, with the words in which bytes 768, 800 and 804 lie in this byte order.
+fn padded_file<T: ByteOrder>(alloc: Global, parts: [u32; 3]) -> Result<Vec<u8>, AllocError> {
+    let mut bytes = Vec::new(alloc);
+    push_run(&mut bytes, 2068, 0)?;
+    let fields = [
+        (0, 0x5344_5058),
+        (768, parts[0]),
+        (772, 2),
+        (776, 2),
+        (800, parts[1]),
+        (804, parts[2]),
+        (808, 2048),
+        (812, 4),
+    ];
+    for (at, word) in &fields {
+        put::<T>(&mut bytes, *at, *word);
+    }
+    for (k, word) in PADDED_WORDS.iter().enumerate() {
+        put::<T>(&mut bytes, 2048 + 4 * k, *word);
+    }
+    Ok(bytes)
+}
+
+#[test]
+fn padded_lines_are_read_in_both_orders(rt: HostRuntime) -> Result<(), AllocError> {
+    let alloc = rt.alloc();
+    let mut written = pixel_file(alloc, &PADDED_WRITTEN)?;
+    put::<BigEndian>(&mut written, 772, 2);
+    put::<BigEndian>(&mut written, 776, 2);
+    put::<BigEndian>(&mut written, 16, 2064);
+    let big = padded_file::<BigEndian>(alloc, [1, 0x3200_000A, 0x0002_0000])?;
+    let little = padded_file::<LittleEndian>(alloc, [0x0001_0000, 0x0A00_0032, 2])?;
+    for bytes in [big.as_slice(), little.as_slice()] {
+        assert!(rt; has_codes(alloc, bytes, &PADDED_CODES));
+        assert!(rt; is_written(alloc, bytes, &written));
+    }
+    Ok(())
+}
+
 // A change of the file of one pixel, by words of four bytes, and the codes that it then reads as.
-const READ: [((usize, u32), (usize, u32), [u16; 3]); 8] = [
+static READ: [((usize, u32), (usize, u32), [u16; 3]); 8] = [
     ((804, 0x0002_0000), (2048, 0xFFF0_0200), [1023, 0, 512]),
     ((804, 0x0001_0000), (2048, 0xFFC0_0803), [1023, 0, 512]),
     ((808, 0), (4, 2048), [1023, 0, 512]),
@@ -310,10 +365,10 @@ const READ: [((usize, u32), (usize, u32), [u16; 3]); 8] = [
 
 #[test]
 fn words_are_read(rt: HostRuntime) -> Result<(), AllocError> {
-    for (first, second, codes) in READ {
-        let bytes = changed(rt.alloc(), first, second)?;
+    for (first, second, codes) in &READ {
+        let bytes = changed(rt.alloc(), *first, *second)?;
         assert!(rt;
-            has_codes(rt.alloc(), &bytes, &codes),
+            has_codes(rt.alloc(), &bytes, codes),
             "{}: {:x}",
             first.0,
             first.1
@@ -323,7 +378,7 @@ fn words_are_read(rt: HostRuntime) -> Result<(), AllocError> {
 }
 
 // A change of the file of one pixel, by words of four bytes, and the fault.
-const REFUSED: [((usize, u32), (usize, u32), DpxFault); 17] = [
+static REFUSED: [((usize, u32), (usize, u32), DpxFault); 17] = [
     ((0, 0x5344_5059), (660, 5), DpxFault::NotDpx),
     ((660, 5), (804, 0x0001_0001), DpxFault::Encrypted),
     ((768, 0x0001_0002), (772, 0), DpxFault::Orientation(1)),
@@ -394,15 +449,15 @@ const REFUSED: [((usize, u32), (usize, u32), DpxFault); 17] = [
 
 #[test]
 fn faults_are_told_in_order(rt: HostRuntime) -> Result<(), AllocError> {
-    for (first, second, fault) in REFUSED {
-        let bytes = changed(rt.alloc(), first, second)?;
-        assert_eq!(rt; fault_of(rt.alloc(), &bytes), Some(ReadFault::Dpx(fault)));
+    for (first, second, fault) in &REFUSED {
+        let bytes = changed(rt.alloc(), *first, *second)?;
+        assert_eq!(rt; fault_of(rt.alloc(), &bytes), Some(ReadError::Dpx(*fault)));
     }
     Ok(())
 }
 
 // How many bytes of the file of one pixel are left, and the fault.
-const CUT: [(usize, DpxFault); 8] = [
+static CUT: [(usize, DpxFault); 8] = [
     (0, DpxFault::NotDpx),
     (3, DpxFault::NotDpx),
     (
@@ -452,9 +507,44 @@ const CUT: [(usize, DpxFault); 8] = [
 #[test]
 fn a_cut_file_is_refused(rt: HostRuntime) -> Result<(), AllocError> {
     let bytes = pixel_file(rt.alloc(), &[0xFF, 0xC0, 0x08, 0x00])?;
-    for (count, fault) in CUT {
-        let left = bytes.get(..count).unwrap_or(&[]);
-        assert_eq!(rt; fault_of(rt.alloc(), left), Some(ReadFault::Dpx(fault)));
+    for (count, fault) in &CUT {
+        let left = bytes.get(..*count).unwrap_or(&[]);
+        assert_eq!(rt; fault_of(rt.alloc(), left), Some(ReadError::Dpx(*fault)));
+    }
+    Ok(())
+}
+
+// Each fault, and its text.
+static TEXTS: [(DpxFault, &str); 11] = [
+    (DpxFault::NotDpx, "no magic number of DPX"),
+    (
+        DpxFault::Truncated {
+            need: 2052,
+            have: 2051,
+        },
+        "2051 bytes where 2052 are needed",
+    ),
+    (DpxFault::Encrypted, "encrypted"),
+    (DpxFault::Orientation(3), "image orientation 3"),
+    (DpxFault::Elements(2), "2 image elements"),
+    (
+        DpxFault::Size {
+            width: 16385,
+            height: 1,
+        },
+        "16385 pixels per line, 1 lines",
+    ),
+    (DpxFault::Sign(1), "data sign 1"),
+    (DpxFault::Descriptor(51), "descriptor 51"),
+    (DpxFault::Depth(8), "8 bits"),
+    (DpxFault::Packing(3), "packing 3"),
+    (DpxFault::Compressed(1), "encoding 1"),
+];
+
+#[test]
+fn a_fault_is_told_in_words(rt: HostRuntime) -> Result<(), AllocError> {
+    for (fault, text) in &TEXTS {
+        assert_eq!(rt; fault.to_string(rt.alloc())?.as_str(), *text);
     }
     Ok(())
 }

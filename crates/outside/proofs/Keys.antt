@@ -1,5 +1,5 @@
 -- Look-ups by bytes in a list of entries.
-use Rattle.std.proofs.Common.{Decides, nat_le, arith, ◌≤◌, suc, take, ◌≡◌, ◌≢◌, ℕ, ◌+◌, ◌<◌, Bool, true, false, cond, List, ◌∷◌, length, drop, get_or, Option, Some, nat_eq, ◌&&◌, None, refl, ap, sym, ◌∙◌, add-one}
+use Rattle.std.proofs.Common.{Decides, nat_le, arith, ◌≤◌, suc, take, ◌≡◌, ◌≢◌, ℕ, ◌+◌, ◌<◌, Bool, true, false, cond, List, [], ◌∷◌, ◌++◌, length, drop, get_or, Option, Some, nat_eq, ◌&&◌, None, refl, ap, sym, ◌∙◌, add-one}
 use Rattle.std.proofs.Math.Seq.{drop-cons}
 use Rattle.std.specs.declared.cmp.Ordering.{Ordering}
 use Rattle.std.specs.declared.cmp.Ordering.TheVariants.{Less, Equal, Greater}
@@ -12,7 +12,8 @@ use Rattle.std.specs.Option.{option_map}
 use Rattle.std.proofs.lemmas.Slice.Eq.{bytes_eq-Decides}
 use Rattle.outside.specs.declared.mem_box.Room.{Room}
 use Rattle.outside.specs.Files.{Held}
-use Rattle.outside.specs.MemBox.{has_room, BoxState, stored, next_call, fails_next}
+use Rattle.outside.specs.MemBox.{has_room, BoxState, stored, fails_next}
+use Rattle.outside.specs.Calls.{FileCall, Store, file_call}
 use Rattle.outside.specs.Causes.{raised}
 use Rattle.std.specs.FinMap.{find, FinMap, insert, get, from_entries, get-from_entries, nat_cmp-IsAntisymmetric, slice_cmp-IsAntisymmetric}
 
@@ -75,14 +76,14 @@ put_first held old new name to v w is added same whole = ap from_entries added �
 
 -- a store with room
 pub stored_with_room : (b : BoxState) (name bytes : List ℕ) → has_room b.room name (length bytes) ≡ true
-    → stored b name bytes ≡ record b { calls = next_call b; room = None; lost = cond (fails_next b) (raised b.lost) b.lost; held = insert b.held name (cond (fails_next b) (take b.torn bytes) bytes) }
+    → stored b name bytes ≡ record b { asked = b.asked ++ file_call Store name (fails_next b) ∷ []; room = None; lost = cond (fails_next b) (raised b.lost) b.lost; held = insert b.held name (cond (fails_next b) (take b.torn bytes) bytes) }
 stored_with_room b name bytes h = ap (λ t. cond t
-    (record b { calls = next_call b; room = None; lost = cond (fails_next b) (raised b.lost) b.lost; held = insert b.held name (cond (fails_next b) (take b.torn bytes) bytes) })
-    (record b { calls = next_call b; lost = raised b.lost })) h
+    (record b { asked = b.asked ++ file_call Store name (fails_next b) ∷ []; room = None; lost = cond (fails_next b) (raised b.lost) b.lost; held = insert b.held name (cond (fails_next b) (take b.torn bytes) bytes) })
+    (record b { asked = b.asked ++ file_call Store name true ∷ []; lost = raised b.lost })) h
 
-pub stored_as : (b : BoxState) (name bytes : List ℕ) (fails : Bool) (held : Held) (calls lost : ℕ) (room : Option Room) → has_room b.room name (length bytes) ≡ true → fails ≡ fails_next b
-    → held ≡ insert b.held name (cond fails (take b.torn bytes) bytes) → calls ≡ next_call b → lost ≡ cond fails (raised b.lost) b.lost → room ≡ None
-    → record b { held = held; calls = calls; lost = lost; room = option_map (λ r. (r.name, r.most)) room } ≡ stored b name bytes
-stored_as b name bytes fails held calls lost room roomy is kept next less used =
-    (λ i. record b { held = (kept ∙ ap (λ f. insert b.held name (cond f (take b.torn bytes) bytes)) is) i; calls = next i; lost = (less ∙ ap (λ f. cond f (raised b.lost) b.lost) is) i; room = option_map (λ r. (r.name, r.most)) (used i) })
+pub stored_as : (b : BoxState) (name bytes : List ℕ) (fails : Bool) (held : Held) (asked : List FileCall) (lost : ℕ) (room : Option Room) → has_room b.room name (length bytes) ≡ true → fails ≡ fails_next b
+    → held ≡ insert b.held name (cond fails (take b.torn bytes) bytes) → asked ≡ b.asked ++ file_call Store name fails ∷ [] → lost ≡ cond fails (raised b.lost) b.lost → room ≡ None
+    → record b { held = held; asked = asked; lost = lost; room = option_map (λ r. (r.name, r.most)) room } ≡ stored b name bytes
+stored_as b name bytes fails held asked lost room roomy is kept next less used =
+    (λ i. record b { held = (kept ∙ ap (λ f. insert b.held name (cond f (take b.torn bytes) bytes)) is) i; asked = (next ∙ ap (λ f. b.asked ++ file_call Store name f ∷ []) is) i; lost = (less ∙ ap (λ f. cond f (raised b.lost) b.lost) is) i; room = option_map (λ r. (r.name, r.most)) (used i) })
     ∙ sym (stored_with_room b name bytes roomy)

@@ -1,2 +1,3 @@
-pub mod Bytes
-pub mod Keys
+mod Bytes
+mod Keys
+mod Walks

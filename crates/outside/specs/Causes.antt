@@ -14,6 +14,6 @@ HasCause before now (Err e) = Rose before now
 abbrev pub raised : ℕ → ℕ
 raised n = min (n + 1) (2 ^ 64 - 1)
 
--- A count after a call, which failed or did not.
+-- A count after a file_call, which failed or did not.
 abbrev pub counted : Bool → ℕ → ℕ
 counted failed n = cond failed (raised n) n

@@ -27,10 +27,10 @@ abbrev pub holds : Held → List ℕ → Bool
 holds held name = map.contains_key held name
 
 -- What is found never has more bytes than the limit, and says the limit that it was given.
-abbrev pub IsWithin : ℕ → Fetched → Type 0
-IsWithin limit (Bytes bytes) = length bytes ≤ limit
-IsWithin limit Absent = Unit {0}
-IsWithin limit (TooLong told) = told ≡ limit
+abbrev pub IsWithinLimit : ℕ → Fetched → Type 0
+IsWithinLimit limit (Bytes bytes) = length bytes ≤ limit
+IsWithinLimit limit Absent = Unit {0}
+IsWithinLimit limit (TooLong told) = told ≡ limit
 
 -- Whether a fetch answers that the box failed.
 abbrev pub is_failed : Result Fetched FetchFault → Bool
@@ -43,7 +43,7 @@ abbrev pub IsFailed : Result Fetched FetchFault → Type 0
 IsFailed result = IsTrue (is_failed result)
 
 -- A failure comes only where the count rose, and every other answer, want of memory too, leaves it.
-abbrev pub FetchHasCause : ℕ → ℕ → Result Fetched FetchFault → Type 0
+abbrev pub FetchHasCause : {T : Type 0} → ℕ → ℕ → Result T FetchFault → Type 0
 FetchHasCause before now (Ok got) = now ≡ before
 FetchHasCause before now (Err Memory) = now ≡ before
 FetchHasCause before now (Err Failed) = Rose before now

@@ -1,11 +1,13 @@
 //! A console, as a trait, in memory and over the standard output.
 
-ghost use Rattle.std.specs.Prelude.{ℕ, List, Option, Some, [], ◌≡◌, ◌≤◌, ◌<◌, ◌+◌, ◌-◌, ◌↔◌, length, IfOk, IsOk, IsErr, is_err, None};
+ghost use Rattle.std.specs.Prelude.{ℕ, List, Option, Some, [], ◌≡◌, ◌≤◌, ◌<◌, ◌+◌, ◌-◌, ◌↔◌, length, take, OnOk, OnErr, IfOk, IsOk, IsErr, is_err, None};
+ghost use Rattle.std.specs.Io.KnownBytes.{Appends};
 ghost use Rattle.outside.specs.Causes.{HasCause, counted};
-ghost use Rattle.outside.specs.Said.{Says};
+ghost use Rattle.outside.specs.Pieces.{SaysPiece};
 
-use crate::files::Failed;
-use crate::stream::write_whole;
+use crate::files::{Failed, count_failure};
+use crate::stream::{Sink, write_whole};
+use crate::system::Writing;
 use ctl_base::Memory;
 use std::alloc::Global;
 use std::io;
@@ -25,7 +27,7 @@ pub trait Console {
     /// Says the piece. After `Failed` nothing or a prefix of it is said.
     fn say(&mut self, piece: &[u8]) -> Result<(), Failed>
         ensures cause { HasCause (failures self.old) (failures self.new) result }
-        ensures says { Says (said self.old) (said self.new) piece.now result }
+        ensures says { SaysPiece (said self.old) (said self.new) piece.now result }
         ensures heard { (n : ℕ) → hears self.old n → length piece.now ≤ n → IsOk result × hears self.new (n - length piece.now) };
 }
 
@@ -81,14 +83,13 @@ impl Console for MemConsole {
     /// nothing of the piece is said. Takes no memory.
     fn say(&mut self, piece: &[u8]) -> Result<(), Failed>
         ensures cause { HasCause self.old.failures self.new.failures result }
-        ensures says { Says (Some self.old.said) (Some self.new.said) piece.now result }
+        ensures says { SaysPiece (Some self.old.said) (Some self.new.said) piece.now result }
         ensures heard { (n : ℕ) → Hears self.old n → length piece.now ≤ n → IsOk result × Hears self.new (n - length piece.now) }
         ensures after { self.new ≡ spoken self.old piece.now }
         ensures fails { IsErr result ↔ (self.old.room < length self.old.said + length piece.now) }
     {
         if piece.len() > self.room as usize - self.bytes.len() {
-            self.failures = self.failures.saturating_add(1);
-            return Err(Failed);
+            return Err(count_failure(&mut self.failures));
         }
         match self.bytes.extend_from_slice(piece) {
             Ok(()) => Ok(()),
@@ -97,7 +98,7 @@ impl Console for MemConsole {
     }
 }
 
-/// The standard output. It tells nothing of what it shows.
+/// The standard output. It tells nothing of what it shows. Where a piece failed, nothing is written any more.
 #[derive(Drop)]
 pub struct OutConsole<R: Print + Drop> {
     rt: R,
@@ -128,15 +129,33 @@ impl<R: Print + Drop> Console for OutConsole<R> {
 
     ghost hears = { λ _ _. ⊥ };
 
-    /// Writes the whole piece. Every error is a failure, which is counted.
+    /// Writes the whole piece. Every error is a failure, which is counted, and after one every call fails.
     fn say(&mut self, piece: &[u8]) -> Result<(), Failed>
         ensures cause { HasCause self.old self.new result }
         ensures counts { self.new ≡ counted (is_err result) self.old }
+        ensures shut { 0 < self.old → IsErr result }
     {
-        let answer = write_whole(&mut io::writer(&self.rt), piece);
-        if answer.is_err() {
-            self.failures = self.failures.saturating_add(1);
-        }
-        answer
+        say_to(
+            &mut Writing::new(io::writer(&self.rt)),
+            &mut self.failures,
+            piece,
+        )
+    }
+}
+
+// Writes the whole piece to a sink where so many pieces failed. After a failure it is not written to again.
+fn say_to<S: Sink>(sink: &mut S, failures: &mut u64, piece: &[u8]) -> Result<(), Failed>
+    ensures cause { HasCause failures.old failures.new result }
+    ensures counts { failures.new ≡ counted (is_err result) failures.old }
+    ensures shut { 0 < failures.old → IsErr result × (sink.new ≡ sink.old) }
+    ensures whole { OnOk result (Appends (S.written sink.old) (S.written sink.new) piece.now) }
+    ensures torn { OnErr result ((n : ℕ) × Appends (S.written sink.old) (S.written sink.new) (take n piece.now)) }
+{
+    if *failures > 0 {
+        return Err(count_failure(failures));
+    }
+    match write_whole(sink, piece) {
+        Ok(()) => Ok(()),
+        Err(_) => Err(count_failure(failures)),
     }
 }

@@ -1,8 +1,10 @@
 //! Files by name, as a trait.
 
-ghost use Rattle.std.specs.Prelude.{ℕ, List, Option, ◌≡◌, ◌≢◌, ◌≤◌, length, IfOk, IfSome, IsOk};
-ghost use Rattle.outside.specs.Causes.{HasCause};
-ghost use Rattle.outside.specs.Files.{Held, fetch_of, holds, IsWithin, FetchHasCause, Stores};
+ghost use Rattle.std.specs.Prelude.{ℕ, List, [], ◌∷◌, ◌++◌, Option, ◌≡◌, ◌≢◌, ◌≤◌, length, is_err, IfOk, IfSome, IsOk};
+ghost use Rattle.outside.specs.Calls.{FileCall, Fetch, Has, Store, file_call};
+ghost use Rattle.outside.specs.Causes.{HasCause, Rose, raised};
+ghost use Rattle.outside.specs.Files.{Held, fetch_of, holds, is_failed, IsWithinLimit, FetchHasCause, Stores};
+ghost use Rattle.outside.specs.ReadsAlone.{ReadsAlone};
 
 use ctl_base::{ByteText, Memory};
 use std::alloc::Global;
@@ -51,10 +53,22 @@ impl From<Failed> for FetchFault {
     }
 }
 
+// Counts a failure.
+pub(crate) fn count_failure(count: &mut u64) -> Failed
+    ensures counts { count.new ≡ raised count.old }
+    ensures rose { Rose count.old count.new }
+{
+    *count = count.saturating_add(1);
+    Failed
+}
+
 /// Files by name.
 pub trait FileBox {
     /// The bytes of each file by its name, where the box tells them.
     ghost held: { Self → Option Held };
+
+    /// The calls so far, the oldest first.
+    ghost asked: { Self → List FileCall };
 
     /// How often `fetch` and `has` have failed. It never falls, and stops at 2^64 - 1.
     ghost faults: { Self → ℕ };
@@ -67,24 +81,25 @@ pub trait FileBox {
 
     /// The bytes of the named file, if it has at most `limit` bytes. Leaves the files as they are.
     fn fetch(&mut self, alloc: Global, name: &str, limit: u64) -> Result<Fetched, FetchFault>
-        ensures held_stays { held self.new ≡ held self.old }
-        ensures lost_stays { lost self.new ≡ lost self.old }
+        ensures reads { ReadsAlone held lost serves self.old self.new }
+        ensures asks { asked self.new ≡ asked self.old ++ file_call Fetch name.now (is_failed result) ∷ [] }
         ensures cause { FetchHasCause (faults self.old) (faults self.new) result }
-        ensures within { IfOk result (IsWithin limit) }
+        ensures within { IfOk result (IsWithinLimit limit) }
         ensures answer { IfOk result (λ got. IfSome (held self.old) (λ files. got ≡ fetch_of files name.now limit)) }
-        ensures served { (to : List ℕ) (n : ℕ) → serves self.old to n → serves self.new to n × (result ≢ Err FetchFault.Failed) };
+        ensures served { (to : List ℕ) (n : ℕ) → serves self.old to n → result ≢ Err FetchFault.Failed };
 
     /// Whether a file has the name. Leaves the files as they are.
     fn has(&mut self, name: &str) -> Result<bool, Failed>
-        ensures held_stays { held self.new ≡ held self.old }
-        ensures lost_stays { lost self.new ≡ lost self.old }
+        ensures reads { ReadsAlone held lost serves self.old self.new }
+        ensures asks { asked self.new ≡ asked self.old ++ file_call Has name.now (is_err result) ∷ [] }
         ensures cause { HasCause (faults self.old) (faults self.new) result }
         ensures answer { IfOk result (λ yes. IfSome (held self.old) (λ files. yes ≡ holds files name.now)) }
-        ensures served { (to : List ℕ) (n : ℕ) → serves self.old to n → serves self.new to n × IsOk result };
+        ensures served { (to : List ℕ) (n : ℕ) → serves self.old to n → IsOk result };
 
     /// Makes the name hold the bytes, and leaves every other file as it is. After `Failed` the name
     /// is as it was, is absent or holds a prefix of the bytes.
     fn store(&mut self, name: &str, bytes: &[u8]) -> Result<(), Failed>
+        ensures asks { asked self.new ≡ asked self.old ++ file_call Store name.now (is_err result) ∷ [] }
         ensures faults_stay { faults self.new ≡ faults self.old }
         ensures cause { HasCause (lost self.old) (lost self.new) result }
         ensures stored { Stores (held self.old) (held self.new) name.now bytes.now result }

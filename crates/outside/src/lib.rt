@@ -2,11 +2,13 @@
 //! one implementation in memory and one over the system.
 #![tactic(auto)]
 
+mod calls;
 pub mod console;
 pub mod disk_box;
 pub mod files;
 pub mod mem_box;
 mod stream;
+mod system;
 
 pub use console::{Console, MemConsole, OutConsole};
 pub use disk_box::DiskBox;

@@ -1,16 +1,19 @@
 //! A box of files in memory, whose calls fail where a list says so.
 
-ghost use Rattle.std.specs.Prelude.{◌≡◌, ◌∷◌, Some, None, IfOk, OnOk, OnErr, IsTrue, IsErr, ◌↔◌, ◌≤◌, ◌+◌, ◌-◌, ◌^◌, ◌<◌, min, length, take, IfSome, ℕ, List, ◌≢◌, nat_eq, IsOk, vec_len, vec_capacity, if◌then◌else◌};
+ghost use Rattle.std.specs.Prelude.{◌≡◌, [], ◌∷◌, ◌++◌, is_err, Some, None, IfOk, OnOk, OnErr, IsTrue, IsErr, ◌↔◌, ◌≤◌, ◌+◌, ◌-◌, ◌^◌, ◌<◌, min, length, take, IfSome, ℕ, List, ◌≢◌, nat_eq, IsOk, vec_len, vec_capacity, if◌then◌else◌};
 ghost use Rattle.std.specs.List.{list_any};
 ghost use Rattle.std.specs.Ordering.{nat_cmp};
 ghost use Rattle.std.specs.Cmp.Lexicographic.{slice_cmp};
 ghost use Rattle.std.specs.FinMap as map;
 ghost use Rattle.std.specs.Option.{option_copied, option_map};
+ghost use Rattle.outside.specs.Calls.{Fetch, Has, Store, file_call};
 ghost use Rattle.outside.specs.Causes.{HasCause};
-ghost use Rattle.outside.specs.Files.{fetch_of, IsWithin, FetchHasCause, Stores, holds, IsFailed};
-ghost use Rattle.outside.specs.MemBox.{has_room};
+ghost use Rattle.outside.specs.Files.{fetch_of, fetched, IsWithinLimit, FetchHasCause, Stores, holds, is_failed, IsFailed};
+ghost use Rattle.outside.specs.MemBox.{has_room, next_number};
+ghost use Rattle.outside.specs.ReadsAlone.{ReadsAlone};
 
-use crate::files::{Failed, FetchFault, Fetched, FileBox};
+use crate::calls::{Calls, NewCall};
+use crate::files::{Failed, FetchFault, Fetched, FileBox, count_failure};
 use ctl_base::{ByteText, Memory, TextArg};
 use std::alloc::Global;
 use std::marker::Model;
@@ -31,23 +34,25 @@ pub struct MemBox {
     failing: Vec<u32>,
     torn: u32,
     calls: u32,
+    asked: Calls,
     faults: u64,
     lost: u64,
     room: Option<Room>,
 }
 
 impl Model for MemBox {
-    ghost use Rattle.outside.specs.MemBox.{BoxState, state_code};
+    ghost use Rattle.outside.specs.MemBox.{BoxState};
+    ghost use Rattle.outside.specs.Codes.{coded_state};
 
     ghost Value = { BoxState };
 
-    ghost coded = { state_code };
+    ghost coded = { coded_state };
 
-    ghost use Rattle.outside.specs.Inside.{view_of, IsRoomy};
+    ghost use Rattle.outside.specs.Inside.{view_of, IsReady};
 
     ghost view = { view_of };
 
-    ghost invariant = { IsRoomy };
+    ghost invariant = { IsReady };
 }
 
 impl MemBox {
@@ -56,7 +61,7 @@ impl MemBox {
     /// A box that holds nothing and has no room. The calls with the numbers in `failing` fail, and a
     /// store that fails leaves the first `torn` bytes.
     pub fn new(failing: Vec<u32>, torn: u32) -> MemBox
-        ensures { result ≡ record { held = map.empty; faults = 0; lost = 0; calls = 0; failing = failing.items; torn = torn; room = None } }
+        ensures { result ≡ record { held = map.empty; asked = []; faults = 0; lost = 0; failing = failing.items; torn = torn; room = None } }
     {
         let alloc = *failing.allocator();
         MemBox {
@@ -64,6 +69,7 @@ impl MemBox {
             failing,
             torn,
             calls: 0,
+            asked: Calls::new(),
             faults: 0,
             lost: 0,
             room: None,
@@ -99,9 +105,9 @@ impl MemBox {
         Ok(())
     }
 
-    /// How many calls were counted.
+    /// How many calls were made. The count stops at 2^32 - 1.
     pub fn calls(&self) -> u32
-        ensures { result ≡ self.now.calls }
+        ensures { result ≡ min (length self.now.asked) (2 ^ 32 - 1) }
     {
         self.calls
     }
@@ -138,10 +144,25 @@ fn find<'a>(files: &'a [(TextArg, ByteText)], name: &str) -> Option<&'a ByteText
     None
 }
 
-// Counts a call, and says whether it fails.
-fn count_call(calls: &mut u32, failing: &[u32]) -> bool
-    ensures next { calls.new ≡ min (calls.old + 1) (2 ^ 32 - 1) }
-    ensures fails { result ≡ list_any (λ n. nat_eq n (min (calls.old + 1) (2 ^ 32 - 1))) failing.now }
+// What a fetch finds of the bytes that a name holds.
+fn found_within(alloc: Global, held: Option<&ByteText>, limit: u64) -> Result<Fetched, Memory>
+    ensures answer { IfOk result (λ got. got ≡ fetched (option_copied held.entry) limit) }
+    ensures within { IfOk result (IsWithinLimit limit) }
+{
+    let Some(bytes) = held else {
+        return Ok(Fetched::Absent);
+    };
+    if bytes.as_slice().len() as u64 > limit {
+        return Ok(Fetched::TooLong { limit });
+    }
+    Ok(Fetched::Bytes(bytes.copy(alloc)?))
+}
+
+// Counts a call after those that were made, and says whether it fails.
+fn count_call(calls: &mut u32, _made: &Calls, failing: &[u32]) -> bool
+    requires { calls.old ≡ min (length _made.now.all) (2 ^ 32 - 1) }
+    ensures next { calls.new ≡ next_number (length _made.now.all) }
+    ensures fails { result ≡ list_any (λ n. nat_eq n (next_number (length _made.now.all))) failing.now }
 {
     *calls = calls.saturating_add(1);
     failing.contains(calls)
@@ -152,6 +173,8 @@ impl FileBox for MemBox {
 
     ghost held = { λ b. Some b.held };
 
+    ghost asked = { λ b. b.asked };
+
     ghost faults = { λ b. b.faults };
 
     ghost lost = { λ b. b.lost };
@@ -161,43 +184,39 @@ impl FileBox for MemBox {
     /// Fails exactly where the number of the call is listed.
     #[tactic(auto, using(crate::proofs::Keys::get_held))]
     fn fetch(&mut self, alloc: Global, name: &str, limit: u64) -> Result<Fetched, FetchFault>
-        ensures held_stays { Some self.new.held ≡ Some self.old.held }
-        ensures lost_stays { self.new.lost ≡ self.old.lost }
+        ensures reads { ReadsAlone (λ b. Some b.held) (λ b. b.lost) Serves self.old self.new }
+        ensures asks { self.new.asked ≡ self.old.asked ++ file_call Fetch name.now (is_failed result) ∷ [] }
         ensures cause { FetchHasCause self.old.faults self.new.faults result }
-        ensures within { IfOk result (IsWithin limit) }
+        ensures within { IfOk result (IsWithinLimit limit) }
         ensures answer { IfOk result (λ got. IfSome (Some self.old.held) (λ files. got ≡ fetch_of files name.now limit)) }
-        ensures served { (to : List ℕ) (n : ℕ) → Serves self.old to n → Serves self.new to n × (result ≢ Err FetchFault.Failed) }
-        ensures after { self.new ≡ looked self.old }
+        ensures served { (to : List ℕ) (n : ℕ) → Serves self.old to n → result ≢ Err FetchFault.Failed }
+        ensures after { self.new ≡ looked self.old Fetch name.now }
         ensures fails { IsFailed result ↔ IsTrue (fails_next self.old) }
     {
-        if count_call(&mut self.calls, &self.failing) {
-            self.faults = self.faults.saturating_add(1);
-            return Err(FetchFault::Failed);
+        let fails = count_call(&mut self.calls, &self.asked, &self.failing);
+        self.asked = self.asked.with(&NewCall::Fetch(name, fails));
+        if fails {
+            return Err(FetchFault::from(count_failure(&mut self.faults)));
         }
-        let Some(bytes) = find(&self.files, name) else {
-            return Ok(Fetched::Absent);
-        };
-        if bytes.as_slice().len() as u64 > limit {
-            return Ok(Fetched::TooLong { limit });
-        }
-        Ok(Fetched::Bytes(bytes.copy(alloc)?))
+        let got = found_within(alloc, find(&self.files, name), limit)?;
+        Ok(got)
     }
 
     /// Fails exactly where the number of the call is listed. Takes no memory.
     #[tactic(auto, using(crate::proofs::Keys::get_held))]
     fn has(&mut self, name: &str) -> Result<bool, Failed>
-        ensures held_stays { Some self.new.held ≡ Some self.old.held }
-        ensures lost_stays { self.new.lost ≡ self.old.lost }
+        ensures reads { ReadsAlone (λ b. Some b.held) (λ b. b.lost) Serves self.old self.new }
+        ensures asks { self.new.asked ≡ self.old.asked ++ file_call Has name.now (is_err result) ∷ [] }
         ensures cause { HasCause self.old.faults self.new.faults result }
         ensures answer { IfOk result (λ yes. IfSome (Some self.old.held) (λ files. yes ≡ holds files name.now)) }
-        ensures served { (to : List ℕ) (n : ℕ) → Serves self.old to n → Serves self.new to n × IsOk result }
-        ensures after { self.new ≡ looked self.old }
+        ensures served { (to : List ℕ) (n : ℕ) → Serves self.old to n → IsOk result }
+        ensures after { self.new ≡ looked self.old Has name.now }
         ensures fails { IsErr result ↔ IsTrue (fails_next self.old) }
     {
-        let listed = count_call(&mut self.calls, &self.failing);
-        if listed {
-            self.faults = self.faults.saturating_add(1);
-            return Err(Failed);
+        let fails = count_call(&mut self.calls, &self.asked, &self.failing);
+        self.asked = self.asked.with(&NewCall::Has(name, fails));
+        if fails {
+            return Err(count_failure(&mut self.faults));
         }
         Ok(find(&self.files, name).is_some())
     }
@@ -206,6 +225,7 @@ impl FileBox for MemBox {
     /// name. Where the room suffices it is used up, and a failing call leaves the first `torn` bytes,
     /// or all of them where there are fewer. Takes no memory.
     fn store(&mut self, name: &str, bytes: &[u8]) -> Result<(), Failed>
+        ensures asks { self.new.asked ≡ self.old.asked ++ file_call Store name.now (is_err result) ∷ [] }
         ensures faults_stay { self.new.faults ≡ self.old.faults }
         ensures cause { HasCause self.old.lost self.new.lost result }
         ensures stored { Stores (Some self.old.held) (Some self.new.held) name.now bytes.now result }
@@ -213,11 +233,12 @@ impl FileBox for MemBox {
         ensures after { self.new ≡ stored self.old name.now bytes.now }
         ensures fails { IsErr result ↔ IsTrue (store_fails self.old name.now (length bytes.now)) }
     {
-        let fails = count_call(&mut self.calls, &self.failing);
+        let fails = count_call(&mut self.calls, &self.asked, &self.failing);
         if !suffices(&self.room, name, bytes.len() as u64) {
-            self.lost = self.lost.saturating_add(1);
-            return Err(Failed);
+            self.asked = self.asked.with(&NewCall::Store(name, true));
+            return Err(count_failure(&mut self.lost));
         }
+        self.asked = self.asked.with(&NewCall::Store(name, fails));
         let kept = kept(bytes, self.torn, fails);
         let Some(
             Room {
@@ -231,8 +252,7 @@ impl FileBox for MemBox {
         };
         fill(&mut self.files, to, space, kept);
         if fails {
-            self.lost = self.lost.saturating_add(1);
-            return Err(Failed);
+            return Err(count_failure(&mut self.lost));
         }
         Ok(())
     }

@@ -1,31 +1,60 @@
-//! Whole reads and whole writes over any reader and writer.
+//! Whole reads of what gives bytes, and whole writes to what takes them.
 
-ghost use Rattle.std.specs.Prelude.{ℕ, List, ◌≡◌, ◌≤◌, ◌<◌, ◌+◌, ◌++◌, length, take, IfOk, IfSome, OnOk, OnErr, Some};
+ghost use Rattle.std.specs.Prelude.{ℕ, List, Option, ◌≡◌, ◌≤◌, ◌<◌, ◌+◌, ◌++◌, length, take, IfOk, IfSome, OnOk, OnErr, Some};
 ghost use Rattle.std.specs.Io.{ReadsAtMost, WritesAtMost};
 ghost use Rattle.std.specs.Io.KnownBytes.{Appends, Consumes, IsAtEnd, ReadConsumes, WriteAppends};
-ghost use Rattle.outside.specs.Files.{IsWithin, fetched};
+ghost use Rattle.outside.specs.Causes.{HasCause};
+ghost use Rattle.outside.specs.Files.{FetchHasCause, IsWithinLimit, fetched};
 
 use crate::files::{Failed, FetchFault, Fetched};
 use ctl_base::{ByteText, Memory};
 use std::alloc::Global;
-use std::io::{ErrorKind, Read, Write};
 
-// The most bytes that one read of a file is asked for.
+/// What gives bytes, and counts how often it failed.
+pub trait Source {
+    /// The bytes that it will give from here on, where it tells them.
+    ghost left: { Self → Option (List ℕ) };
+
+    ghost failures: { Self → ℕ };
+
+    /// Puts the next bytes at the front of the piece, and answers how many. None are the end.
+    fn give(&mut self, piece: &mut [u8]) -> Result<usize, Failed>
+        ensures cause { HasCause (failures self.old) (failures self.new) result }
+        ensures bound { ReadsAtMost result piece.new }
+        ensures bytes { ReadConsumes (left self.old) (left self.new) result piece.new };
+}
+
+/// What takes bytes, and counts how often it failed.
+pub trait Sink {
+    /// The bytes that it took, where it tells them.
+    ghost written: { Self → Option (List ℕ) };
+
+    ghost failures: { Self → ℕ };
+
+    /// Takes some of the bytes from the front on, and answers how many. To take none of some is a failure.
+    fn take(&mut self, bytes: &[u8]) -> Result<usize, Failed>
+        ensures cause { HasCause (failures self.old) (failures self.new) result }
+        ensures bound { WritesAtMost result bytes.now }
+        ensures some { IfOk result (λ count. 0 < length bytes.now → 0 < count) }
+        ensures bytes { WriteAppends (written self.old) (written self.new) result bytes.now };
+}
+
+// The most bytes that a file is asked for at once.
 const PIECE: usize = 65_536;
 
-// Reads to the end, but no further than one byte past the limit. A read that gives nothing is the
-// end. Reads that never come to an end are a failure.
-pub(crate) fn read_up_to<R: Read>(
+/// Reads to the end, but no further than one byte past the limit. Fails exactly where the source did.
+pub fn read_up_to<S: Source>(
     alloc: Global,
-    reader: &mut R,
+    source: &mut S,
     limit: u64,
 ) -> Result<Fetched, FetchFault>
-    ensures within { IfOk result (IsWithin limit) }
-    ensures whole { IfOk result (λ got. IfSome (R.remaining reader.old) (λ bytes. got ≡ fetched (Some bytes) limit)) }
-    ensures stops { (taken : List ℕ) × Consumes (R.remaining reader.old) (R.remaining reader.new) taken × (length taken ≤ limit + 1) }
+    ensures cause { FetchHasCause (S.failures source.old) (S.failures source.new) result }
+    ensures within { IfOk result (IsWithinLimit limit) }
+    ensures whole { IfOk result (λ got. IfSome (S.left source.old) (λ bytes. got ≡ fetched (Some bytes) limit)) }
+    ensures stops { (taken : List ℕ) × Consumes (S.left source.old) (S.left source.new) taken × (length taken ≤ limit + 1) }
 {
     let mut piece = new_piece(alloc)?;
-    read_pieces(alloc, reader, &mut piece, limit)
+    read_pieces(alloc, source, &mut piece, limit)
 }
 
 fn new_piece(alloc: Global) -> Result<Vec<u8>, Memory>
@@ -35,22 +64,23 @@ fn new_piece(alloc: Global) -> Result<Vec<u8>, Memory>
 }
 
 // The same, by reads into the piece.
-fn read_pieces<R: Read>(
+fn read_pieces<S: Source>(
     alloc: Global,
-    reader: &mut R,
+    source: &mut S,
     piece: &mut [u8],
     limit: u64,
 ) -> Result<Fetched, FetchFault>
     requires { 0 < length piece.old }
-    ensures within { IfOk result (IsWithin limit) }
-    ensures whole { IfOk result (λ got. IfSome (R.remaining reader.old) (λ bytes. got ≡ fetched (Some bytes) limit)) }
-    ensures stops { (taken : List ℕ) × Consumes (R.remaining reader.old) (R.remaining reader.new) taken × (length taken ≤ limit + 1) }
+    ensures cause { FetchHasCause (S.failures source.old) (S.failures source.new) result }
+    ensures within { IfOk result (IsWithinLimit limit) }
+    ensures whole { IfOk result (λ got. IfSome (S.left source.old) (λ bytes. got ≡ fetched (Some bytes) limit)) }
+    ensures stops { (taken : List ℕ) × Consumes (S.left source.old) (S.left source.new) taken × (length taken ≤ limit + 1) }
 {
     let mut bytes = Vec::new(alloc);
-    'reads: for _ in 0..u64::MAX {
+    'reads: loop {
         let left = limit - bytes.len() as u64;
         let most = left.saturating_add(1).min(piece.len() as u64) as usize;
-        let count = read_piece(reader, &mut piece[..most], &mut bytes)?;
+        let count = read_piece(source, &mut piece[..most], &mut bytes)?;
         if count == 0 {
             return Ok(Fetched::Bytes(ByteText::from_vec(bytes)));
         }
@@ -58,22 +88,22 @@ fn read_pieces<R: Read>(
             return Ok(Fetched::TooLong { limit });
         }
     }
-    Err(FetchFault::Failed)
 }
 
 // One read into the piece, whose bytes are then put behind those that were read before.
-fn read_piece<R: Read>(
-    reader: &mut R,
+fn read_piece<S: Source>(
+    source: &mut S,
     piece: &mut [u8],
     bytes: &mut Vec<u8>,
 ) -> Result<usize, FetchFault>
+    ensures cause { FetchHasCause (S.failures source.old) (S.failures source.new) result }
     ensures fits { IfOk result (λ count. count ≤ length piece.new) }
     ensures grown { IfOk result (λ count. bytes.new.items ≡ bytes.old.items ++ take count piece.new) }
-    ensures took { IfOk result (λ count. Consumes (R.remaining reader.old) (R.remaining reader.new) (take count piece.new)) }
-    ensures end { IfOk result (λ count. count ≡ 0 → 0 < length piece.new → IsAtEnd (R.remaining reader.new)) }
-    ensures stopped { OnErr result ((n : ℕ) × (n ≤ length piece.new) × Consumes (R.remaining reader.old) (R.remaining reader.new) (take n piece.new)) }
+    ensures took { IfOk result (λ count. Consumes (S.left source.old) (S.left source.new) (take count piece.new)) }
+    ensures end { IfOk result (λ count. count ≡ 0 → 0 < length piece.new → IsAtEnd (S.left source.new)) }
+    ensures stopped { OnErr result ((n : ℕ) × (n ≤ length piece.new) × Consumes (S.left source.old) (S.left source.new) (take n piece.new)) }
 {
-    let count = read_once(reader, piece)?;
+    let count = source.give(piece)?;
     append(bytes, &piece[..count])?;
     Ok(count)
 }
@@ -86,51 +116,15 @@ fn append(bytes: &mut Vec<u8>, piece: &[u8]) -> Result<(), Memory>
     Ok(())
 }
 
-// A read, tried again where it is interrupted.
-fn read_once<R: Read>(reader: &mut R, buf: &mut [u8]) -> Result<usize, Failed>
-    ensures bound { ReadsAtMost result buf.new }
-    ensures bytes { ReadConsumes (R.remaining reader.old) (R.remaining reader.new) result buf.new }
-{
-    'tries: for _ in 0..u64::MAX {
-        match reader.read(buf) {
-            Ok(count) => return Ok(count),
-            Err(e) if e.kind() == ErrorKind::Interrupted => {}
-            Err(_) => return Err(Failed),
-        }
-    }
-    Err(Failed)
-}
-
-// Writes all of the bytes, or a prefix of them. A write that takes nothing is a failure.
-pub(crate) fn write_whole<W: Write>(writer: &mut W, bytes: &[u8]) -> Result<(), Failed>
-    ensures whole { OnOk result (Appends (W.contents writer.old) (W.contents writer.new) bytes.now) }
-    ensures torn { OnErr result ((n : ℕ) × Appends (W.contents writer.old) (W.contents writer.new) (take n bytes.now)) }
+/// Writes all of the bytes, or a prefix of them. Fails exactly where the sink did.
+pub fn write_whole<S: Sink>(sink: &mut S, bytes: &[u8]) -> Result<(), Failed>
+    ensures cause { HasCause (S.failures sink.old) (S.failures sink.new) result }
+    ensures whole { OnOk result (Appends (S.written sink.old) (S.written sink.new) bytes.now) }
+    ensures torn { OnErr result ((n : ℕ) × Appends (S.written sink.old) (S.written sink.new) (take n bytes.now)) }
 {
     let mut done = 0;
-    'writes: for _ in 0..u64::MAX {
-        if done == bytes.len() {
-            return Ok(());
-        }
-        let count = write_once(writer, &bytes[done..])?;
-        if count == 0 {
-            return Err(Failed);
-        }
-        done += count;
+    'writes: while done < bytes.len() {
+        done += sink.take(&bytes[done..])?;
     }
-    Err(Failed)
-}
-
-// A write, tried again where it is interrupted.
-fn write_once<W: Write>(writer: &mut W, buf: &[u8]) -> Result<usize, Failed>
-    ensures bound { WritesAtMost result buf.now }
-    ensures bytes { WriteAppends (W.contents writer.old) (W.contents writer.new) result buf.now }
-{
-    'tries: for _ in 0..u64::MAX {
-        match writer.write(buf) {
-            Ok(count) => return Ok(count),
-            Err(e) if e.kind() == ErrorKind::Interrupted => {}
-            Err(_) => return Err(Failed),
-        }
-    }
-    Err(Failed)
+    Ok(())
 }

@@ -3,8 +3,8 @@ use Rattle.byteorder.specs.Endian.{big_bytes}
 use Rattle.dpx_file.proofs.header.put_field.Given as goal
 
 -- what is left to be written completes the number
-abbrev pub invariant-loop-left : goal.invariant-loop-left
-invariant-loop-left l = l.out.items ++ big_bytes l.left l.field.number ≡ l.initial.out.items ++ big_bytes l.field.size l.field.number
+abbrev pub invariant-bytes : goal.invariant-bytes
+invariant-bytes l = l.out.items ++ big_bytes l.left l.field.number ≡ l.initial.out.items ++ big_bytes l.field.size l.field.number
 
-abbrev pub decreases-loop-left : goal.decreases-loop-left
-decreases-loop-left l = l.left
+abbrev pub decreases-bytes : goal.decreases-bytes
+decreases-bytes l = l.left

@@ -1,7 +1,7 @@
 use Rattle.std.proofs.Common.{sym, ◌∙◌, refl}
 use Rattle.std.proofs.lemmas.Bool.{ne_eqb}
 use Rattle.dpx_file.specs.Reading.{layout_of}
-use Rattle.dpx_file.proofs.Sizes.{IsSize-from_test}
+use Rattle.dpx_file.proofs.Sizes.{IsImageSize-from_test}
 use Rattle.dpx_file.proofs.layout.layout_of.Goals as goal
 
 pub returns-then-not-is_size-clause-exact : goal.returns-then-not-is_size-clause-exact
@@ -92,7 +92,7 @@ returns-clause-exact c =
     ) refl
 
 pub returns-clause-size : goal.returns-clause-size
-returns-clause-size c = IsSize-from_test _ _ (sym c.is_size.ensures ∙ c.if-not-is_size.false)
+returns-clause-size c = IsImageSize-from_test _ _ (sym c.is_size.ensures ∙ c.if-not-is_size.false)
 
 pub returns-clause-depth : goal.returns-clause-depth
 returns-clause-depth c = sym c.is_depth.ensures ∙ c.if-not-is_depth.false

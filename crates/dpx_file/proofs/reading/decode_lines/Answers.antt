@@ -1,6 +1,6 @@
 use Rattle.std.proofs.Common.{◌≡◌, ◌*◌, ap, ◌∙◌, sym, refl, drop, length, length-drop, mul-zero, arith}
 use Rattle.std.proofs.lemmas.List.{take_rest, take_all}
-use Rattle.dpx_file.specs.Answers.{plain_layout}
+use Rattle.dpx_file.specs.Kept.{plain_layout}
 use Rattle.dpx_file.specs.Reading.{line_codes}
 use Rattle.dpx_file.proofs.CodeLemmas.{length_line}
 use Rattle.dpx_file.proofs.LineLemmas.{lines_none, lines_all, line_step, line_room, lines_below}

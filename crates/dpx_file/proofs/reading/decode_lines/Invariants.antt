@@ -1,5 +1,5 @@
 use Rattle.std.proofs.Common.{◌≡◌, ◌*◌, take}
-use Rattle.dpx_file.specs.Answers.{plain_layout}
+use Rattle.dpx_file.specs.Kept.{plain_layout}
 use Rattle.dpx_file.proofs.LineLemmas.{lines_below}
 use Rattle.dpx_file.proofs.reading.decode_lines.Given as goal
 

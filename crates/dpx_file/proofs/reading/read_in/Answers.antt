@@ -1,5 +1,5 @@
 use Rattle.std.proofs.Common.{◌∙◌, ap, length}
-use Rattle.dpx_file.specs.Answers.{plain_layout}
+use Rattle.dpx_file.specs.Kept.{plain_layout}
 use Rattle.dpx_file.proofs.CodeLemmas.{length_codes, codes_fit}
 use Rattle.dpx_file.proofs.reading.read_in.Goals as goal
 

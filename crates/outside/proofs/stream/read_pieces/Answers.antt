@@ -1,4 +1,4 @@
-use Rattle.std.proofs.Common.{take, ◌++◌, length-append, arith}
+use Rattle.std.proofs.Common.{take, ◌∙◌, ◌++◌, length-append, arith}
 use Rattle.std.proofs.lemmas.List.{length-take}
 use Rattle.outside.proofs.Bytes.{consumes_more}
 use Rattle.outside.proofs.stream.read_pieces.Goals as goal
@@ -11,4 +11,4 @@ returns-in_err-count-clause-stops g c =
 
 pub reads-preserved : goal.reads-preserved
 reads-preserved g c =
-    (omega arith, rw c.in_ok-count.ensures.grown (consumes_more _ _ _ _ _ c.reads.invariant.1 c.in_ok-count.ensures.took))
+    (omega arith, rw c.in_ok-count.ensures.grown (consumes_more _ _ _ _ _ c.reads.invariant.1 c.in_ok-count.ensures.took), c.in_ok-count.ensures.cause ∙ c.reads.invariant.2)

@@ -1,5 +1,5 @@
 use Rattle.std.proofs.Common.{sym, ◌∙◌, ap, refl, cond, length, inr, take}
-use Rattle.outside.specs.Inside.{view_of}
+use Rattle.outside.specs.contracts.mem_box.MemBox.{the_view}
 use Rattle.outside.specs.MemBox.{stored}
 use Rattle.outside.specs.Causes.{raised}
 use Rattle.outside.proofs.Keys.{room_is, put_first, stored_as}
@@ -24,8 +24,8 @@ returns-clause-after c =
     let inside = c.self.inside in
     let roomy = sym c.suffices.ensures ∙ c.if-not-suffices.false in
     let same = room_is inside.room c.in-Some.field-0 c.args.name.now (length c.args.bytes.now) (sym c.in-Some.ensures.value) roomy in
-    stored_as (view_of inside) c.args.name.now c.args.bytes.now c.count_call-fails.result _ _ _ _ roomy (rw c.deref.ensures.value at c.count_call-fails.ensures.fails)
-    (put_first _ _ _ _ _ _ _ refl c.fill.ensures same c.kept-kept.ensures) c.count_call-fails.ensures.next (ap (λ f. cond f (raised inside.lost) inside.lost) (sym c.if-fails.false)) c.take.ensures.after
+    stored_as (the_view inside) c.args.name.now c.args.bytes.now c.count_call-fails.result _ _ _ _ roomy (rw c.deref.ensures.value at c.count_call-fails.ensures.fails)
+    (put_first _ _ _ _ _ _ _ refl c.fill.ensures same c.kept-kept.ensures) c.with-self-inside-2.ensures (ap (λ f. cond f (raised inside.lost) inside.lost) (sym c.if-fails.false)) c.take.ensures.after
     ∙ ap (λ b. stored b c.args.name.now c.args.bytes.now) c.self.view_is
 
 pub returns-then-fails-clause-after : goal.returns-then-fails-clause-after
@@ -33,6 +33,6 @@ returns-then-fails-clause-after c =
     let inside = c.self.inside in
     let roomy = sym c.suffices.ensures ∙ c.if-not-suffices.false in
     let same = room_is inside.room c.in-Some.field-0 c.args.name.now (length c.args.bytes.now) (sym c.in-Some.ensures.value) roomy in
-    stored_as (view_of inside) c.args.name.now c.args.bytes.now c.count_call-fails.result _ _ _ _ roomy (rw c.deref.ensures.value at c.count_call-fails.ensures.fails)
-    (put_first _ _ _ _ _ _ _ refl c.fill.ensures same c.kept-kept.ensures) c.count_call-fails.ensures.next (c.saturating_add-self-inside-then-fails.ensures ∙ ap (λ f. cond f (raised inside.lost) inside.lost) (sym c.if-fails.true)) c.take.ensures.after
+    stored_as (the_view inside) c.args.name.now c.args.bytes.now c.count_call-fails.result _ _ _ _ roomy (rw c.deref.ensures.value at c.count_call-fails.ensures.fails)
+    (put_first _ _ _ _ _ _ _ refl c.fill.ensures same c.kept-kept.ensures) c.with-self-inside-2.ensures (c.count_failure-then-fails.ensures.counts ∙ ap (λ f. cond f (raised inside.lost) inside.lost) (sym c.if-fails.true)) c.take.ensures.after
     ∙ ap (λ b. stored b c.args.name.now c.args.bytes.now) c.self.view_is

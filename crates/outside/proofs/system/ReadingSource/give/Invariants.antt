@@ -1,0 +1,7 @@
+use Rattle.std.proofs.Common.{◌≡◌}
+use Rattle.std.specs.Io.KnownBytes.{Keeps}
+use Rattle.outside.proofs.system.ReadingSource.give.Given as goal
+
+-- What is interrupted leaves the reader as it was.
+abbrev pub invariant-tries : goal.invariant-tries
+invariant-tries g l = Keeps (g.R.Read.remaining l.fn.self.reader) (g.R.Read.remaining l.self.reader) × (l.self.failures ≡ l.fn.self.failures)

@@ -1,0 +1,7 @@
+use Rattle.std.proofs.Common.{◌≡◌}
+use Rattle.std.specs.Io.KnownBytes.{Keeps}
+use Rattle.outside.proofs.system.WritingSink.take.Given as goal
+
+-- What is interrupted leaves the writer as it was.
+abbrev pub invariant-tries : goal.invariant-tries
+invariant-tries g l = Keeps (g.W.Write.contents l.fn.self.writer) (g.W.Write.contents l.self.writer) × (l.self.failures ≡ l.fn.self.failures)
