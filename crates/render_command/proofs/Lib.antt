@@ -1,7 +1,8 @@
-pub mod FirstSpellings
-pub mod FirstRefusals
-pub mod Spoken
-pub mod Judged
-pub mod Codes
-pub mod Pixels
-pub mod Ended
+-- The lemmas of this crate.
+mod Codes
+mod Pixels
+mod Meanings
+mod Verdicts
+mod Stepping
+mod Answered
+mod Ended

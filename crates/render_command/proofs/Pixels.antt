@@ -4,9 +4,9 @@ use Rattle.std.proofs.lemmas.List.{take_rest}
 use Rattle.std.proofs.lemmas.List.{length-append, length-take, length-drop, drop-drop}
 use Rattle.std.proofs.Math.Seq.{take-append_seam}
 use Rattle.std.proofs.Math.Nat.{mul-le-mul_left}
-use Rattle.dpx_file.specs.Plain.{PlainImage, line_of, replaced}
+use Rattle.dpx_file.specs.Plain.{PlainImage, codes_of_line, replaced}
 use Rattle.render_command.specs.Rendered.{Pixel, codes_of, run_pixel, rendered_codes}
-use Rattle.render_command.specs.declared.first_text.tree.FirstText.{FirstText}
+use Rattle.first_text.specs.declared.tree.FirstText.{FirstText}
 
 -- the pixel whose codes begin a list
 abbrev pub front_pixel : List ℕ → Pixel
@@ -81,7 +81,7 @@ line_end width height y h =
     let f : (3 * width) * (y + 1) ≤ (3 * width) * height = mul-le-mul_left (3 * width) (omega arith) in
     omega (arith, f)
 
-pub line_of-length : (image : PlainImage) (y : ℕ) → length image.codes ≡ 3 * image.width * image.height → y < image.height → length (line_of image y) ≡ 3 * image.width
-line_of-length image y count h =
+pub codes_of_line-length : (image : PlainImage) (y : ℕ) → length image.codes ≡ 3 * image.width * image.height → y < image.height → length (codes_of_line image y) ≡ 3 * image.width
+codes_of_line-length image y count h =
     let f : 3 * image.width * y + 3 * image.width ≤ 3 * image.width * image.height = line_end image.width image.height y h in
     simp (length-take, length-drop) (omega (arith, f, count))

@@ -3,9 +3,8 @@ use Rattle.std.specs.Prelude.{◌≡◌, ℕ, List, Option, Some, None, Ok, Err}
 use Rattle.std.specs.FinMap as files
 use Rattle.outside.specs.Causes.{Rose}
 use Rattle.outside.specs.Files.{Held, MayLeave}
-use Rattle.render_command.specs.Command.{Command}
-use Rattle.render_command.specs.declared.status.Status.{Status}
-use Rattle.render_command.specs.declared.status.Status.TheVariants.{Done, NotFound, Source, ReadFault, WriteFault, Memory, Later}
+use Rattle.command_status.specs.declared.status.Status.{Status}
+use Rattle.command_status.specs.declared.status.Status.TheVariants.{Done, ReadFault, WriteFault, Memory}
 use Rattle.render_command.specs.Verdict.{Judges, Plan}
 
 -- what the files hold after, and what was asked of them
@@ -27,18 +26,6 @@ abbrev pub Counted : ℕ → ℕ → ℕ → ℕ → Status → Type 0
 Counted faults faults' lost lost' (ReadFault name) = Rose faults faults' × (lost' ≡ lost)
 Counted faults faults' lost lost' WriteFault = (faults' ≡ faults) × Rose lost lost'
 Counted faults faults' lost lost' status = (faults' ≡ faults) × (lost' ≡ lost)
-
--- Words that spell no command are answered by Later, whatever the box tells.
-abbrev pub RefusesWords : Option Command → Status → Type 0
-RefusesWords None status = status ≡ Later
-RefusesWords (Some command) status = Unit {0}
-
--- a read fault names such a name, and what is said of the text names such a file
-abbrev pub Names : (List ℕ → Type 0) → (List ℕ → Type 0) → Status → Type 0
-Names P Q (ReadFault name) = P name
-Names P Q (NotFound name) = Q name
-Names P Q (Source file line fault) = Q file
-Names P Q status = Unit {0}
 
 -- all that was asked is done, or memory ran out
 abbrev pub Finishes : Status → Type 0

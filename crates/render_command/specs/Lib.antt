@@ -1,11 +1,7 @@
-pub mod Command
-pub mod FirstParts
-pub mod FirstText
-pub mod FirstRun
-pub mod FirstReading
+-- The definitions of this crate.
 pub mod Rendered
 pub mod Verdict
 pub mod Ends
-pub mod Lines
-pub mod Said
-pub mod Answers
+pub mod Calls
+-- Means of the steps, which no public contract cites.
+pub mod Means

@@ -3,9 +3,9 @@ use Rattle.std.specs.Prelude.{ℕ, List, [], ◌∷◌, map, unsigned_abs}
 use Rattle.fix_num.specs.Fixed.{code_in, code_out}
 use Rattle.fix_num.specs.declared.TheConstants.{FRACTION}
 use Rattle.dpx_file.specs.Plain.{PlainImage}
-use Rattle.render_command.specs.FirstRun.{run_text}
-use Rattle.render_command.specs.declared.first_text.tree.Colour.{Colour}
-use Rattle.render_command.specs.declared.first_text.tree.FirstText.{FirstText}
+use Rattle.first_text.specs.Run.{run_text}
+use Rattle.first_text.specs.declared.tree.Colour.{Colour}
+use Rattle.first_text.specs.declared.tree.FirstText.{FirstText}
 
 -- the codes of a pixel
 pub record Pixel : Type 0 where

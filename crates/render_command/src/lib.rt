@@ -1,12 +1,9 @@
-//! The command: the words, the steps over the files, the image that is rendered, and what is said.
+//! The command: its steps over the files in their order, and the image that is rendered.
 #![tactic(auto)]
 
-pub mod command;
-pub mod first_text;
-pub mod order;
-pub mod picture;
-pub mod say;
-pub mod status;
+mod order;
+mod picture;
 
-pub use order::render;
-pub use status::{ImageFault, SourceFault, Status};
+pub use command_status::{ImageFault, SourceFault, Status};
+pub use order::{one_verdict, render, some_verdict};
+pub use picture::render_image;

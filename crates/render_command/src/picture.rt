@@ -1,12 +1,12 @@
 //! The image that a text makes of an image.
 
 ghost use Rattle.std.specs.Prelude.{◌≡◌, ◌≤◌, ◌<◌, ◌^◌, ◌++◌, ◌∷◌, [], IfOk, OnOk};
-ghost use Rattle.dpx_file.specs.Plain.{CodesFit, line_of, with_line};
+ghost use Rattle.dpx_file.specs.Plain.{CodesFit, codes_of_line, with_line};
 ghost use Rattle.render_command.specs.Rendered.{codes_of, rendered, rendered_codes, run_pixel};
 
-use crate::first_text::{Colour, FirstText};
 use ctl_base::Memory;
 use dpx_file::{Canvas, Image};
+use first_text::{Colour, FirstText};
 use fix_num::Fix;
 use std::alloc::Global;
 
@@ -34,8 +34,9 @@ fn put_rendered(
     requires width { canvas.old.width ≡ image.now.width }
     requires height { canvas.old.height ≡ image.now.height }
     requires depth { canvas.old.depth ≡ image.now.depth }
-    ensures { OnOk result (canvas.new ≡ with_line canvas.old y (rendered_codes text.now image.now.depth (line_of image.now y))) }
+    ensures { OnOk result (canvas.new ≡ with_line canvas.old y (rendered_codes text.now image.now.depth (codes_of_line image.now y))) }
 {
+    fix_num::codes_stay_in_range();
     line.clear();
     render_line(text, image.depth(), image.line(y), line)?;
     canvas.put_line(y, line);

@@ -8,4 +8,8 @@ mod failing;
 #[cfg(test)]
 mod fixture;
 #[cfg(test)]
+mod formats;
+#[cfg(test)]
+mod tables;
+#[cfg(test)]
 mod texts;

@@ -3,7 +3,7 @@
 //!
 //! The works: `copy` copies the file's bytes, `dpx` reads the file as an image and writes it again, `lex` cuts it into
 //! tokens, `parse` reads it as a module, and `count` counts its tokens. `pow`, `log2` and `exp2` make a thousand calls of
-//! that function each time, and use no file.
+//! that function each time, and `called` makes those of `pow` by its name in the language's library; they use no file.
 #![tactic(auto)]
 
 use anyhow::{Result, bail};
@@ -43,6 +43,7 @@ fn sum_of(alloc: Global, work: &str, file: &[u8], times: u32) -> Result<u64> {
         "parse" => texts::modules(alloc, file, times),
         "count" => texts::count(alloc, file, times),
         "pow" => Ok(powers::powers(times)),
+        "called" => Ok(powers::called_powers(times)),
         "log2" => Ok(powers::logarithms(times)),
         "exp2" => Ok(powers::powers_of_two(times)),
         _ => bail!("no such work"),

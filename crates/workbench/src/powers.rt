@@ -1,5 +1,6 @@
 //! Powers and logarithms of arguments that are spread over a range. No file is used.
 
+use ctl_stdlib::{LibraryId, call};
 use fix_elem::{exp2, log2, pow};
 use fix_num::{FRACTION, Fix};
 
@@ -18,6 +19,19 @@ pub(crate) fn powers(times: u32) -> u64 {
     for n in 0..CALLS * u64::from(times) {
         let seed = n.wrapping_mul(STEP);
         sum = sum.wrapping_add(bits(pow(base(seed), exponent(seed))));
+    }
+    sum
+}
+
+/// The same powers, each by a call of the language's function.
+pub(crate) fn called_powers(times: u32) -> u64 {
+    let mut sum = 0u64;
+    for n in 0..CALLS * u64::from(times) {
+        let seed = n.wrapping_mul(STEP);
+        let args = [base(seed), exponent(seed)];
+        let mut out = [Fix::ONE];
+        call(LibraryId::Pow, &[], &[], &args, &mut out);
+        sum = sum.wrapping_add(bits(out[0]));
     }
     sum
 }

@@ -1,18 +1,18 @@
 use Rattle.std.proofs.Common.{◌≡◌, ℕ, List, ◌+◌, ◌*◌, ◌≤◌, ◌<◌, ◌++◌, length, take, drop, refl, ap, sym, ◌∙◌, arith}
-use Rattle.dpx_file.specs.Plain.{PlainImage, line_of, replaced}
+use Rattle.dpx_file.specs.Plain.{PlainImage, codes_of_line, replaced}
 use Rattle.render_command.specs.Rendered.{rendered_codes}
 use Rattle.render_command.proofs.Codes.{rendered-length}
-use Rattle.render_command.proofs.Pixels.{line_end, line_of-length, lines_more, replaced-length}
+use Rattle.render_command.proofs.Pixels.{line_end, codes_of_line-length, lines_more, replaced-length}
 use Rattle.render_command.proofs.picture.render_image.Goals as goal
 
 pub lines-preserved : goal.lines-preserved
 lines-preserved c =
     let image : PlainImage = c.args.image.now in
     let y : ℕ = c.lines.y in
-    let line : List ℕ = rendered_codes c.args.text.now image.depth (line_of image y) in
+    let line : List ℕ = rendered_codes c.args.text.now image.depth (codes_of_line image y) in
     let below : y < image.height = omega (arith, c.height-y-end.ensures.value) in
     let ends : 3 * image.width * y + 3 * image.width ≤ 3 * image.width * image.height = line_end image.width image.height y below in
-    let many : length line ≡ 3 * image.width = rendered-length _ _ image.width (line_of image y) (line_of-length image y c.width.ensures.valid.count below) in
+    let many : length line ≡ 3 * image.width = rendered-length _ _ image.width (codes_of_line image y) (codes_of_line-length image y c.width.ensures.valid.count below) in
     let put : c.put_rendered.new.canvas.codes ≡ replaced c.lines.canvas.codes (3 * image.width * y) line =
     ap (λ (p : PlainImage). p.codes) c.in_ok-put_rendered.ensures ∙ ap (λ (w : ℕ). replaced c.lines.canvas.codes (3 * w * y) line) c.lines.invariant.width in
     record {

@@ -1,0 +1,5 @@
+-- The definitions of this crate.
+pub mod Messages
+pub mod Spoken
+-- Means of the saying, which no public contract cites.
+pub mod Means
