@@ -1,9 +1,8 @@
 #!/usr/bin/env python3
-"""Writes the example images beside this script, or the ones that are named.
+"""Writes an example image to a path, or beside this script: examples/make_images.py IMAGE [PATH]
 
-Use: examples/make_images.py [in.dpx | ramp.dpx ..]
-in.dpx is one pixel of ten bits with the codes 1023, 0, 512. ramp.dpx has 1,920 by 1,080 pixels: red rises
-along each line, green down the lines, blue along both.
+in.dpx is one pixel of ten bits with the codes 1023, 0, 512. ramp.dpx has 1,920 by 1,080 pixels: red rises along each
+line, green down the lines, blue along both.
 """
 import pathlib, struct, sys
 
@@ -38,5 +37,7 @@ IMAGES = {
     'ramp.dpx': lambda: image(1920, 1080, lambda x, y: (x * 1023 // 1919, y * 1023 // 1079, (x + y) % 1024)),
 }
 
-for name in sys.argv[1:] or IMAGES:
-    (pathlib.Path(__file__).parent / name).write_bytes(IMAGES[name]())
+if len(sys.argv) not in (2, 3) or sys.argv[1] not in IMAGES:
+    sys.exit(__doc__)
+path = pathlib.Path(sys.argv[2]) if len(sys.argv) == 3 else pathlib.Path(__file__).parent / sys.argv[1]
+path.write_bytes(IMAGES[sys.argv[1]]())

@@ -1,10 +1,8 @@
 #!/usr/bin/env python3
-"""Exact cases for crates/fix_elem, with whole numbers alone.
+"""Exact cases for crates/fix_elem, with whole numbers alone: tables of raws and the raws that the definitions give.
+The exponent is found by halving, and a power by a product over the set bits.
 
-    python3 tools/fix_elem_cases.py [FRACTION]
-
-writes tables of raws and the raws that the definitions give. The exponent is found by halving, and a power by a
-product over the set bits.
+    python3 tools/fix_elem_tables.py [FRACTION]
 """
 import math
 import sys
@@ -32,14 +30,14 @@ def mul(a, b):
 
 CONSTANTS = []
 before = 1 << 63
-for _ in range(F):
+for _ in range(40):
     before = math.isqrt(before << 62)
     CONSTANTS.append(before)
 
 
 def power(f):
     e = 1 << 62
-    for k, c in enumerate(CONSTANTS, 1):
+    for k, c in enumerate(CONSTANTS[:F], 1):
         if f & (1 << (F - k)):
             e = e * c // 2**62
     return e
@@ -47,9 +45,11 @@ def power(f):
 
 def exp2(x):
     i, f = divmod(x, ONE)
-    if i > 62 - F:
+    shift = 62 - F - i
+    if shift < 0:
         return MOST
-    return rnd(power(f), 2 ** (62 - F - i))
+    # a power is below 2^63, so that a longer shift leaves nothing of it
+    return rnd(power(f), 2**shift) if shift <= 64 else 0
 
 
 def exponent(m):
@@ -116,13 +116,13 @@ def around(n):
 
 
 ENDS = [-MOST, -MOST + 1, MOST - 1, MOST]
-SMALL = [-3 * ONE, -ONE - 1, -ONE, -ONE // 2, -2, -1, 0, 1, 2, 3, ONE // 2, ONE // 3, 7 * ONE // 10]
-NEAR = [x for k in (0, 1, 5, F - 1, F, F + 1, 40, 50, 62) for x in around(1 << k)]
+SMALL = [-2, 2, ONE // 2, ONE // 3, 7 * ONE // 10, 9 * ONE, -9 * ONE, 22 * ONE, -22 * ONE, 123456789012345, -98765432109]
+NEAR = [x for n in (0, ONE, 2 * ONE, -ONE) for x in around(n)]
 
-one_argument = sorted(set(ENDS + SMALL + NEAR + [-(x) for x in NEAR if x < 2**50] + [
-    (62 - F) * ONE + d for d in (-1, 0, 1, ONE - 1, ONE)] + [
-    -(F + 1) * ONE + d for d in (-1, 0, 1)] + [-(F + 2) * ONE + d for d in (-1, 0, 1)] + [
-    -(F + 40) * ONE, 123456789012345, -98765432109, 22 * ONE, -22 * ONE, 9 * ONE, -9 * ONE]))
+# where 2^x, e^x and 10^x leave the range, and where nothing is left of 2^x
+TO_POWERS = sorted(set(ENDS + SMALL + NEAR + around((63 - F) * ONE) + around(-(F + 1) * ONE) + around(-(F + 2) * ONE) + [
+    (62 - F) * ONE, -(F + 40) * ONE, log(MOST), log(MOST) + 2, log10(MOST), log10(MOST) + 2]))
+TO_LOGARITHMS = sorted(set(ENDS + SMALL + NEAR + around(1 << 5) + around(1 << 40) + around(1 << 62)))
 PAIRS = [
     (ONE // 2, 2 * ONE), (0, 0), (-2 * ONE, 3 * ONE), (-2 * ONE, ONE // 2), (2 * ONE, ONE // 2),
     (0, 1), (0, MOST), (0, -1), (0, -MOST), (1, 1), (MOST, MOST), (MOST, -MOST), (-MOST, MOST), (-MOST, -MOST),
@@ -140,19 +140,30 @@ PAIRS = [
 
 def table(name, comment, rows):
     print(f"// {comment}")
-    width = len(rows[0])
-    print(f"pub(super) const {name}: [({', '.join(['i64'] * width)}); {len(rows)}] = [")
+    print(f"pub(super) static {name}: [({', '.join(['i64'] * len(rows[0]))}); {len(rows)}] = [")
     for row in rows:
-        print(f"    ({', '.join(str(n) for n in row)}),")
+        print(f"({', '.join(str(n) for n in row)}),")
     print("];\n")
 
 
-print("""//! Cases at the edges, computed with exact whole numbers.
+def print_constants():
+    print("file: crates/fix_elem/src/constants.rt")
+    print("/// `2^(1/2)`, `2^(1/4)`, `2^(1/8)` and so on, with 62 fraction bits. Each is the square root, rounded down, of the")
+    print("/// one before it. As many serve as a number has fraction bits. Printed by tools/fix_elem_tables.py.")
+    print(f"pub(crate) const TABLE: [u64; {len(CONSTANTS)}] = [")
+    for c in CONSTANTS:
+        print(f"{c},")
+    print("];")
+
+
+print_constants()
+print("""file: crates/fix_elem/src/tests/tables.rt
+//! Cases at the edges, computed with exact whole numbers.
 //!
-//! Made by `python3 tools/fix_elem_cases.py` and laid out by `rt fmt`.
+//! Printed by tools/fix_elem_tables.py.
 """)
-table("POWERS", "A raw x and the raws of 2^x, e^x and 10^x.", [(x, exp2(x), exp(x), pow10(x)) for x in one_argument])
+table("POWERS", "A raw x and the raws of 2^x, e^x and 10^x.", [(x, exp2(x), exp(x), pow10(x)) for x in TO_POWERS])
 table("LOGARITHMS", "A raw x, the raws of its logarithms to the bases 2, e and 10, and of its square root.",
-      [(x, log2(x), log(x), log10(x), sqrt(x)) for x in one_argument])
+      [(x, log2(x), log(x), log10(x), sqrt(x)) for x in TO_LOGARITHMS])
 table("PAIRS", "Two raws x and y, and the raws of pow, hypot and fmod of them.",
       [(x, y, pow(x, y), hypot(x, y), fmod(x, y)) for x, y in PAIRS])

@@ -1,12 +1,9 @@
-"""Exact values of the angle functions, for the tests of crates/fix_trig.
+"""The constants of the turns and exact values of the angle functions, for crates/fix_trig, from whole numbers alone.
 
-Computes with Python's whole numbers alone, from the written rules.
-`python3 tools/fix_trig_cases.py` prints the tables of crates/fix_trig/src/tests/tables.rt,
-`python3 tools/fix_trig_cases.py constants [BITS]` the constants of the turns.
+    python3 tools/fix_trig_tables.py
 """
 import math
 import random
-import sys
 from fractions import Fraction
 
 F = 32
@@ -39,7 +36,7 @@ def constants(bits):
     return rows
 
 
-CONSTANTS = constants(F)
+CONSTANTS = constants(40)
 
 
 def turn(point, k):
@@ -154,12 +151,12 @@ def angles():
     xs = [0, 1, -1, 2, -2, ONE, -ONE, MOST, -MOST, MOST - 1, 1 - MOST, 2 ** 62, -2 ** 62]
     for n in (1, 2, 3, 4, -1, -2, -3, -4):
         xs += [n * half_pi - 1, n * half_pi, n * half_pi + 1]
-    for n in range(-9, 10):
+    for n in range(-9, 10, 2):
         xs.append(raw(Fraction(2 * n + 1, 4)))
     xs += halfway()
     rng = random.Random(1)
-    xs += [rng.randint(-8 * ONE, 8 * ONE) for _ in range(16)]
-    xs += [rng.randint(-MOST, MOST) for _ in range(8)]
+    xs += [rng.randint(-8 * ONE, 8 * ONE) for _ in range(8)]
+    xs += [rng.randint(-MOST, MOST) for _ in range(4)]
     return xs
 
 
@@ -167,9 +164,9 @@ def points():
     ends = (0, 1, -1, ONE, -ONE, MOST, -MOST)
     out = [(y, x) for y in ends for x in ends]
     rng = random.Random(2)
-    for _ in range(12):
-        out.append((rng.randint(-4 * ONE, 4 * ONE), rng.randint(-4 * ONE, 4 * ONE)))
     for _ in range(8):
+        out.append((rng.randint(-4 * ONE, 4 * ONE), rng.randint(-4 * ONE, 4 * ONE)))
+    for _ in range(4):
         out.append((rng.randint(-MOST, MOST), rng.randint(-MOST, MOST)))
     return out
 
@@ -181,29 +178,31 @@ def shares():
     return xs + [rng.randint(-ONE, ONE) for _ in range(8)]
 
 
-def print_rows(name, comment, rows, width):
-    print(f"\n// {comment}")
-    print(f"pub(super) const {name}: [({', '.join(['i64'] * width)}); {len(rows)}] = [")
-    for row in rows:
-        print(f"    ({', '.join(map(str, row))}),")
+def print_turns():
+    print("file: crates/fix_trig/src/constants.rt")
+    print("/// The turns by a quarter turn over 2, 4, 8 and so on. As many serve as a number has fraction bits.")
+    print("/// Printed by tools/fix_trig_tables.py.")
+    print(f"pub(crate) const TURNS: [Turn; {len(CONSTANTS)}] = [")
+    for c, s in CONSTANTS:
+        print(f"Turn {{ cosine: {c}, sine: {s} }},")
     print("];")
 
 
-def main(words):
-    check()
-    if words[:1] == ["constants"]:
-        for c, s in constants(int(words[1]) if words[1:] else F):
-            print(c, s)
-        return
-    print("//! Exact values of the angle functions.")
-    print("//!")
-    print("//! Made by `python3 tools/fix_trig_cases.py` and laid out by `rt fmt`.")
-    print_rows("ANGLES", "A raw, and the raws of its sine, cosine and tangent.",
-               [(x, *sin_cos(x), tan(x)) for x in angles()], 4)
-    print_rows("POINTS", "The raws y and x, and the raw of the angle at which (x, y) lies.",
-               [(y, x, atan2(y, x)) for y, x in points()], 3)
-    print_rows("SHARES", "A raw, and the raws of its arc sine, arc cosine and arc tangent.",
-               [(x, asin(x), acos(x), atan(x)) for x in shares()], 4)
+def print_rows(name, comment, rows):
+    print(f"\n// {comment}")
+    print(f"pub(super) static {name}: [({', '.join(['i64'] * len(rows[0]))}); {len(rows)}] = [")
+    for row in rows:
+        print(f"({', '.join(map(str, row))}),")
+    print("];")
 
 
-main(sys.argv[1:])
+check()
+print_turns()
+print("file: crates/fix_trig/src/tests/tables.rt")
+print("//! Exact values of the angle functions.")
+print("//!")
+print("//! Printed by tools/fix_trig_tables.py.")
+print_rows("ANGLES", "A raw, and the raws of its sine, cosine and tangent.", [(x, *sin_cos(x), tan(x)) for x in angles()])
+print_rows("POINTS", "The raws y and x, and the raw of the angle at which (x, y) lies.", [(y, x, atan2(y, x)) for y, x in points()])
+print_rows("SHARES", "A raw, and the raws of its arc sine, arc cosine and arc tangent.",
+           [(x, asin(x), acos(x), atan(x)) for x in shares()])

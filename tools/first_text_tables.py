@@ -1,17 +1,14 @@
-"""First texts and what they make of one pixel, with exact integers.
+#!/usr/bin/env python3
+"""Prints the tables of first texts and what they make of one pixel, with exact integers.
 
-Prints the two tables of crates/render_command/src/first_text/tests.rt:
-
-    python3 tools/first_text_cases.py
-
-A case is a text, written as the part after the head `void main(..)`, or whole. Whether a text is
-a first text is told here by regular expressions over its bytes and over its tokens, and the three
-outputs are computed with whole numbers, so nothing is shared with the reader that is tested.
+A case is a text, written as the part after the head `void main(..)`, or whole. Whether a text is a first text is told
+here by regular expressions over its bytes and over its tokens, and the three outputs are computed with whole numbers,
+so nothing is shared with the reader that is tested.
 """
-
-import re
 from fractions import Fraction
+from functools import lru_cache
 from math import floor
+import re
 
 FRACTION = 32
 MAXR = 2**63 - 1
@@ -66,6 +63,7 @@ def tokens_of(text):
     return tokens
 
 
+@lru_cache
 def point_number(word):
     """The raw of a point number, or None."""
     m = POINT.fullmatch(word)
@@ -261,25 +259,8 @@ def rust(text):
     return 'b"' + out + '"'
 
 
-def main():
-    raws = [code_in(c, 10) for c in PIXEL]
-    inputs = dict(zip((b"rIn", b"gIn", b"bIn"), raws))
-    cases = []
-    for text in ACCEPTED:
-        tree = tree_of((HEAD + text).encode("latin-1"))
-        assert tree is not None, text
-        cases.append((text, run(tree, inputs)))
-    whole = []
-    for text in ACCEPTED_WHOLE:
-        tree = tree_of(text.encode("latin-1"))
-        assert tree is not None, text
-        whole.append((text, run(tree, inputs)))
-    for text, reason in REFUSED:
-        assert tree_of((HEAD + text).encode("latin-1")) is None, text
-    for text, reason in REFUSED_WHOLE:
-        assert tree_of(text.encode("latin-1")) is None, text
-
-    # The products tell a chain that is read from the right.
+def check_chains(raws):
+    """The products tell a chain that is read from the right."""
     def mul(x, y):
         return sat(rnd(x * y, 2**FRACTION))
 
@@ -287,37 +268,56 @@ def main():
     d, e = point_number(b"0.9"), point_number(b"0.15")
     assert mul(mul(r, g), d) != mul(r, mul(g, d)) and mul(mul(g, b), e) != mul(g, mul(b, e))
 
-    print("// What follows the head, and the three outputs.")
-    print("const ACCEPTED: [(&[u8], [i64; 3]); %d] = [" % len(cases))
-    for text, out in cases:
-        print("    (%s, [%s])," % (rust(text), ", ".join(map(str, out))))
-    print("];\n")
-    print("// Whole texts, and the three outputs.")
-    print("const ACCEPTED_WHOLE: [(&[u8], [i64; 3]); %d] = [" % len(whole))
-    for text, out in whole:
-        print("    (%s, [%s])," % (rust(text), ", ".join(map(str, out))))
-    print("];\n")
-    print("// What follows the head, and why it makes no first text.")
-    print("const REFUSED: [(&[u8], &str); %d] = [" % len(REFUSED))
-    for text, reason in REFUSED:
-        print('    (%s, "%s"),' % (rust(text), reason))
-    print("];\n")
-    print("// Whole texts, and why they are no first texts.")
-    print("const REFUSED_WHOLE: [(&[u8], &str); %d] = [" % len(REFUSED_WHOLE))
-    for text, reason in REFUSED_WHOLE:
-        print('    (%s, "%s"),' % (rust(text), reason))
-    print("];\n")
 
+def inputs_of(codes):
+    return dict(zip((b"rIn", b"gIn", b"bIn"), (code_in(c, 10) for c in codes)))
+
+
+def codes_of(text):
+    """The codes that a text gives for 1023, 0 and 512."""
+    return [code_out(raw, 10) for raw in run(tree_of(text.encode()), inputs_of((1023, 0, 512)))]
+
+
+def check_tests(inputs):
+    """The numbers that stand in tests beside the tables."""
+    half = " { rOut = rIn * 0.5; gOut = gIn * 0.5; bOut = bIn * 0.5; }\n"
+    assert codes_of(HEAD + half) == [512, 0, 256]
+    assert codes_of(HEAD + " { rOut = rIn + gIn - 0.25; bOut = bIn * bIn; }") == [767, 0, 256]
     long = HEAD + "{rOut=0.0" + "+rIn*0.5" * 100_000 + ";gOut=gIn;}"
-    print("// A sum of 100,001 products: %s\n" % (list(run(tree_of(long.encode()), inputs)),))
+    assert run(tree_of(long.encode()), inputs) == (62976060100000, 2938882803, 0)
 
-    half = HEAD + " { rOut = rIn * 0.5; gOut = gIn * 0.5; bOut = bIn * 0.5; }\n"
-    for name, text in (("half", half), ("sums", HEAD + ACCEPTED[5])):
-        codes = (1023, 0, 512)
-        inputs = dict(zip((b"rIn", b"gIn", b"bIn"), (code_in(c, 10) for c in codes)))
-        out = run(tree_of(text.encode()), inputs)
-        print("// %s: codes %s give raws %s, codes %s" % (name, codes, out, tuple(code_out(r, 10) for r in out)))
-    print("// inputs: codes %s are raws %s; codes (1023, 0, 512) are raws %s" % (PIXEL, raws, [code_in(c, 10) for c in (1023, 0, 512)]))
+
+def accepted(texts, before, inputs):
+    for text in texts:
+        tree = tree_of((before + text).encode("latin-1"))
+        assert tree is not None, text
+        yield f"({rust(text)}, {list(run(tree, inputs))})"
+
+
+def refused(texts, before):
+    for text, reason in texts:
+        assert tree_of((before + text).encode("latin-1")) is None, text
+        yield f'({rust(text)}, "{reason}")'
+
+
+def table(name, comment, kind, rows):
+    rows = list(rows)
+    print(f"// {comment}\nstatic {name}: [(&[u8], {kind}); {len(rows)}] = [")
+    for row in rows:
+        print(f"    {row},")
+    print("];\n")
+
+
+def main():
+    inputs = inputs_of(PIXEL)
+    check_chains(inputs.values())
+    check_tests(inputs)
+    print("file: crates/first_text/src/tests.rt")
+    outputs = "[i64; 3]"
+    table("ACCEPTED", "What follows the head, and the three outputs.", outputs, accepted(ACCEPTED, HEAD, inputs))
+    table("ACCEPTED_WHOLE", "Whole texts, and the three outputs.", outputs, accepted(ACCEPTED_WHOLE, "", inputs))
+    table("REFUSED", "What follows the head, and why it makes no first text.", "&str", refused(REFUSED, HEAD))
+    table("REFUSED_WHOLE", "Whole texts, and why they are no first texts.", "&str", refused(REFUSED_WHOLE, ""))
 
 
 main()

@@ -1,13 +1,9 @@
 #!/usr/bin/env python3
-"""The header that is written for an image, as runs of equal bytes.
+"""Prints the headers that are written for two images, as runs of equal bytes.
 
-usage: dpx_header.py WIDTH HEIGHT DEPTH
-
-Each printed line is a run: how many bytes, and which byte. The header is made from the byte ranges of SMPTE 268M,
-field by field, without the program. All numbers are most significant byte first, and a number that has no value is
-all ones.
+A row is a run: how many bytes, and which byte. A header is made from the byte ranges of SMPTE 268M, field by field,
+without the program. All numbers are most significant byte first, and a number that has no value is all ones.
 """
-import sys
 
 
 def header(width, height, depth):
@@ -57,10 +53,18 @@ def runs(data):
     return found
 
 
-def main():
-    width, height, depth = map(int, sys.argv[1:])
-    for count, byte in runs(header(width, height, depth)):
+def table(name, comment, *image):
+    rows = runs(header(*image))
+    print(f'// {comment}\nstatic {name}: [(usize, u8); {len(rows)}] = [')
+    for count, byte in rows:
         print(f'    ({count}, 0x{byte:02X}),')
+    print('];\n')
+
+
+def main():
+    print('file: crates/dpx_file/src/tests.rt')
+    table('ONE_PIXEL', 'The header of one pixel of ten bits as runs of equal bytes.', 1, 1, 10)
+    table('SIX_PIXELS', 'The same for three pixels by two of sixteen bits.', 3, 2, 16)
 
 
 main()

@@ -1,6 +1,6 @@
-"""Cases for the tests of table_lookup, computed with exact integers and fractions.
+"""Cases for the tests of crates/table_lookup, computed with exact integers and fractions.
 
-Run as `python3 tools/table_lookup_cases.py`; it prints the tables of crates/table_lookup/src/tests/tables.rt.
+    python3 tools/table_lookup_tables.py
 """
 
 from fractions import Fraction
@@ -189,55 +189,69 @@ def flat(m):
     return [a for row in m for a in row]
 
 
-def show(name, kind, rows):
-    print(f"pub(super) const {name}: [{kind}; {len(rows)}] = [")
+def show(name, comment, kind, rows):
+    print(f"\n// {comment}")
+    print(f"pub(super) static {name}: [{kind}; {len(rows)}] = [")
     for row in rows:
-        print(f"    {row!r},")
+        print(f"{row!r},")
     print("];")
 
 
-def one(name, row):
-    print(f"pub(super) const {name}: [i64; {len(row)}] = {list(row)!r};")
+def one(name, comment, row):
+    print(f"\n// {comment}")
+    print(f"pub(super) static {name}: [i64; {len(row)}] = {list(row)!r};")
 
 
-def main():
-    random = Random(12)
-    print("//! Cases at the edges, computed with exact integers and fractions.")
-    print("//!")
-    print("//! Made by `python3 tools/table_lookup_cases.py` and laid out by `rt fmt`.")
-    print()
+def spread():
     five = [raw(x) for x in ("0.1", "-2.5", "7", "0.30103", "1e9")]
-    one("FIVE", five)
+    one("FIVE", "Five entries.", five)
     ends = [
         (0, ONE, p)
         for p in (-MOST, -1, 0, 1, raw("0.1"), ONE // 4 - 1, ONE // 4, ONE // 4 + 1, ONE // 2, raw("0.74"), ONE - 1, ONE, ONE + 1, MOST)
     ]
-    ends += [(-MOST, MOST, p) for p in (-MOST, -1, 0, 1, 5 * ONE, MOST - 1, MOST)]
+    ends += [(-MOST, MOST, p) for p in (-MOST, 0, 1, 5 * ONE, MOST - 1)]
     ends += [(ONE, ONE, ONE), (ONE, -ONE, 0), (5, 6, 5), (5, 6, 6), (raw("-0.3"), raw("2.2"), raw("1.9"))]
-    show("SPREAD", "(i64, i64, i64, i64, i64)", [(*c, lookup(five, *c), lookup_cubic(five, *c)) for c in ends])
+    comment = "The ends of a range, a number, and what lookup1 and lookup_cubic1 give of {} there."
+    kind = "(i64, i64, i64, i64, i64)"
+    show("SPREAD", comment.format("five entries"), kind, [(*c, lookup(five, *c), lookup_cubic(five, *c)) for c in ends])
     two = [MOST, -MOST]
-    one("TWO", two)
-    few = [(0, 3 * ONE, p) for p in (-1, 0, 1, ONE, raw("1.5"), 2 * ONE, 3 * ONE - 1, 3 * ONE)]
-    show("SPREAD_TWO", "(i64, i64, i64, i64, i64)", [(*c, lookup(two, *c), lookup_cubic(two, *c)) for c in few])
+    one("TWO", "Two entries, the ends of all numbers.", two)
+    few = [(0, 3 * ONE, p) for p in (-1, 0, 1, raw("1.5"), 2 * ONE, 3 * ONE - 1, 3 * ONE)]
+    show("SPREAD_TWO", comment.format("two entries"), kind, [(*c, lookup(two, *c), lookup_cubic(two, *c)) for c in few])
     single = [raw("0.7")]
-    one("SINGLE", single)
-    show("SPREAD_SINGLE", "(i64, i64, i64, i64, i64)", [(*c, lookup(single, *c), lookup_cubic(single, *c)) for c in few[:3]])
+    one("SINGLE", "One entry.", single)
+    show("SPREAD_SINGLE", comment.format("one entry"), kind, [(*c, lookup(single, *c), lookup_cubic(single, *c)) for c in few[:3]])
+
+
+def pairs():
     rising = [(raw(x), raw(y)) for x, y in (("-1", "4"), ("0.5", "-3"), ("0.6", "1e6"), ("3", "2"))]
     mixed = [(raw(x), raw(y)) for x, y in (("0", "1"), ("2", "5"), ("-3", "7"), ("2", "9"), ("1", "-8"), ("4", "0.1"))]
-    for name, pairs in (("RISING", rising), ("MIXED", mixed)):
-        one(name, flat(pairs))
-        points = {x + step for x, _ in pairs for step in (-1, 0, 1)} | {raw(x) for x in ("-4", "0.55", "1.5", "2.75", "3.5")}
-        cases = [(p, interpolate(pairs, p, False), interpolate(pairs, p, True)) for p in sorted(points)]
-        show(name + "_AT", "(i64, i64, i64)", cases)
+    for name, what, table in (("RISING", "Pairs whose x rises", rising), ("MIXED", "Pairs whose x does not rise", mixed)):
+        one(name, what + ".", flat(table))
+        points = {x + step for x, _ in table for step in (-1, 0, 1)} | {raw(x) for x in ("-4", "0.55", "1.5", "2.75", "3.5")}
+        cases = [(p, interpolate(table, p, False), interpolate(table, p, True)) for p in sorted(points)]
+        show(name + "_AT", "A number, and what interp1 and interp_cubic1 give of these pairs there.", "(i64, i64, i64)", cases)
+
+
+def box(random):
     counts = (2, 3, 2)
-    box = [random.randint(-4 * ONE, 4 * ONE) for _ in range(36)]
-    one("BOX", box)
+    table = [random.randint(-4 * ONE, 4 * ONE) for _ in range(36)]
+    one("BOX", "2 by 3 by 2 triples.", table)
     lo, hi = (0, -ONE, raw("0.5")), (ONE, 2 * ONE, raw("0.75"))
-    one("BOX_LOW", lo)
-    one("BOX_HIGH", hi)
+    one("BOX_LOW", "Where the triples begin in each index.", lo)
+    one("BOX_HIGH", "And where they end.", hi)
     points = [tuple(c) for c in product((0, raw("0.3")), (-ONE, raw("0.5"), raw("1.7")), (raw("0.5"), raw("0.6")))]
     points += [hi, lo, (MOST, -MOST, MOST)]
-    show("BOX_AT", "([i64; 3], [i64; 3])", [(list(p), lookup3(box, counts, lo, hi, p)) for p in points])
+    cases = [(list(p), lookup3(table, counts, lo, hi, p)) for p in points]
+    show("BOX_AT", "A point, and what lookup3 gives there.", "([i64; 3], [i64; 3])", cases)
+
+
+def matrices():
+    row = [raw(x) for x in ("0.25", "-3", "1.75")]
+    one("ROW", "A row.", row)
+    one("ROW_TWICE", "It added to itself.", [add(x, x) for x in row])
+    one("ROW_THRICE", "It times 3.", [mul(3 * ONE, x) for x in row])
+    comment = "A matrix, its determinant, its inverse, its square, and the product of ROW and it."
     threes = [
         [["2", "0", "1"], ["0.5", "3", "-1"], ["4", "0.1", "0.2"]],
         [["1", "2", "3"], ["4", "5", "6"], ["7", "8", "9"]],
@@ -245,14 +259,10 @@ def main():
         [["0.00001", "2e9", "3"], ["-2e9", "0.5", "7"], ["1", "1", "-0.25"]],
     ]
     threes = [[[raw(x) for x in row] for row in m] for m in threes]
-    row = [raw(x) for x in ("0.25", "-3", "1.75")]
-    one("ROW", row)
-    one("ROW_TWICE", [add(x, x) for x in row])
-    one("ROW_THRICE", [mul(3 * ONE, x) for x in row])
     cases = [(flat(m), det(m), flat(inverse(m)), flat(times(m, m)), times([row], m)[0]) for m in threes]
-    show("THREES", "([i64; 9], i64, [i64; 9], [i64; 9], [i64; 3])", cases)
-    one("THREE", flat(threes[0]))
-    one("THREE_EXCHANGED", flat(zip(*threes[0])))
+    show("THREES", comment, "([i64; 9], i64, [i64; 9], [i64; 9], [i64; 3])", cases)
+    one("THREE", "A matrix.", flat(threes[0]))
+    one("THREE_EXCHANGED", "Its rows and columns exchanged.", flat(zip(*threes[0])))
     fours = [
         [["2", "0", "1", "0.5"], ["0.5", "3", "-1", "2"], ["4", "0.1", "0.2", "-7"], ["1", "1", "0", "0.3"]],
         [["1", "2", "3", "4"], ["5", "6", "7", "8"], ["1", "2", "3", "4"], ["0", "1", "0", "1"]],
@@ -260,13 +270,29 @@ def main():
     ]
     fours = [[[raw(x) for x in row] for row in m] for m in fours]
     cases = [(flat(m), det(m), flat(inverse(m)), flat(times(m, m)), through(row, m)) for m in fours]
-    show("FOURS", "([i64; 16], i64, [i64; 16], [i64; 16], [i64; 3])", cases)
-    one("FOUR", flat(fours[0]))
-    one("FOUR_EXCHANGED", flat(zip(*fours[0])))
-    colours = [raw(x) for x in ("0.64", "0.33", "0.3", "0.6", "0.15", "0.06", "0.3127", "0.329")]
-    one("COLOURS", colours)
-    points = list(zip(colours[::2], colours[1::2]))
-    show("TO_XYZ", "(i64, [i64; 16])", [(y, flat(rgb_to_xyz(points, y))) for y in (ONE, raw("100"), 0)])
+    show("FOURS", comment, "([i64; 16], i64, [i64; 16], [i64; 16], [i64; 3])", cases)
+    one("FOUR", "A matrix.", flat(fours[0]))
+    one("FOUR_EXCHANGED", "Its rows and columns exchanged.", flat(zip(*fours[0])))
+
+
+def colours():
+    points = [raw(x) for x in ("0.64", "0.33", "0.3", "0.6", "0.15", "0.06", "0.3127", "0.329")]
+    one("COLOURS", "The chromaticities of red, green, blue and white.", points)
+    pairs = list(zip(points[::2], points[1::2]))
+    cases = [(y, flat(rgb_to_xyz(pairs, y))) for y in (ONE, raw("100"), 0)]
+    show("TO_XYZ", "A luminance of white, and the matrix to XYZ.", "(i64, [i64; 16])", cases)
+
+
+def main():
+    print("file: crates/table_lookup/src/tests/tables.rt")
+    print("//! Cases at the edges, computed with exact integers and fractions.")
+    print("//!")
+    print("//! Printed by tools/table_lookup_tables.py.")
+    spread()
+    pairs()
+    box(Random(12))
+    matrices()
+    colours()
 
 
 main()

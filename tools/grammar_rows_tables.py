@@ -1,17 +1,15 @@
 #!/usr/bin/env python3
-"""Modules, faulty texts and nestings: the tables of the grammar's tests, from the two readers of grammar_reader.py.
+"""Modules, faulty texts and nestings: the tables of the grammar's tests, from the readers of grammar_reader.py.
 
-    python3 tools/grammar_cases.py check [COUNT [SEED]]    compares the two readers with each other
-    python3 tools/grammar_cases.py FILE                    prints the tables of crates/grammar_rows/src/FILE.rt, and
-    python3 tools/grammar_cases.py write                   writes all of them; `rt fmt` then lays them out
+    tools/grammar_rows_tables.py                          prints the tables by the descent, as check_tables reads them
+    tools/grammar_rows_tables.py check [COUNT [SEED]]     compares both readers: on each table, on each text within each
+                                                          limit, and on lists of tokens made from the texts
 
-FILE is modules/definitions, modules/expressions, modules/statements, faults/definitions, faults/expressions,
-faults/statements, cuts/tables, follows/tables, nested/tables or stages. The texts stand in grammar_texts.py.
+The texts stand in grammar_texts.py.
 """
 import random
 import sys
 from functools import lru_cache
-from pathlib import Path
 
 sys.dont_write_bytecode = True
 
@@ -19,6 +17,9 @@ from grammar_reader import (
     ANY, KEYWORDS, LIMIT, NEAREST, NO_LIMIT, SIGNS, Chart, chart_of, charted, descend, end_line, fits, lex, verdict,
 )
 from grammar_texts import MODULES, REFUSED, STAGES, WAYS
+
+# Whether what is printed is compared with what the second reader says.
+BOTH = False
 
 
 # ---- the comparison of the two readers
@@ -52,14 +53,20 @@ def mangled(rng, tokens):
 
 
 def compare(tokens, limit):
-    """What the second reader says, which must be what the first says."""
-    found, second = descend(tokens, limit), charted(tokens, limit)
-    agreed = found[0].startswith("(") if second is None else found == second
-    assert agreed, f"{' '.join(t.span for t in tokens)!r} within {limit}: {found} and {second}"
-    return second
+    """The fault of a list of tokens, None where it spells a module. Where both readers are asked, they must agree."""
+    found = descend(tokens, limit)
+    fault = None if found[0].startswith("(") else found
+    if BOTH:
+        second = charted(tokens, limit)
+        assert fault == second, f"{' '.join(t.span for t in tokens)!r} within {limit}: {found} and {second}"
+    return fault
 
 
 def check(count, seed):
+    global BOTH
+    BOTH = True
+    for file, make in files().items():
+        make(file)
     texts = module_texts() + STAGES
     kinds = {}
     for text in texts:
@@ -107,7 +114,7 @@ def upper(name):
 
 
 def made_by(file, about, uses):
-    return f"//! {about}\n//! `python3 tools/grammar_cases.py {file}` prints them.\n\n{uses}\n"
+    return f"//! {about}\n//! Printed by tools/grammar_rows_tables.py.\n\n{uses}\n"
 
 
 def wrapped_fault(text):
@@ -163,12 +170,10 @@ def parts(rows, name, comment, kind):
 
 def cut_row(text):
     """The lengths of the lists of tokens in front that are modules, the whole left out."""
-    tokens, wholes, chart = lex(text), [], Chart(ANY, NO_LIMIT)
-    for at, token in enumerate(tokens):
-        if chart.is_module():
-            wholes.append(at)
-        assert descend(tokens[:at])[0].startswith("(") if at in wholes else descend(tokens[:at]) == ("NotHere", at)
-        assert chart.step(token)
+    tokens = lex(text)
+    faults = [compare(tokens[:at], LIMIT) for at in range(len(tokens))]
+    assert all(fault in (None, ("NotHere", at)) for at, fault in enumerate(faults))
+    wholes = [at for at, fault in enumerate(faults) if fault is None]
     return f"({literal(text)}, &[{', '.join(map(str, wholes))}])"
 
 
@@ -195,13 +200,12 @@ def cuts_file(file):
 
 
 def follow_row(text):
-    tokens, viable = lex(text), []
-    terminals = chart_of(tokens, ANY, NO_LIMIT)[0].terminals()
-    for sample in SAMPLES:
-        token = lex(sample)[0]
-        if any(fits(terminal, token) for terminal in terminals):
-            viable.append(sample)
-        assert (descend(tokens + [token]) != ("NotHere", len(tokens))) == (sample in viable)
+    tokens = lex(text)
+    viable = [sample for sample in SAMPLES if compare(tokens + lex(sample), LIMIT) != ("NotHere", len(tokens))]
+    if BOTH:
+        terminals = chart_of(tokens, ANY, NO_LIMIT)[0].terminals()
+        fitting = [sample for sample in SAMPLES if any(fits(terminal, lex(sample)[0]) for terminal in terminals)]
+        assert viable == fitting, text
     return f"({literal(text)}, {len(tokens)}, {literal(' '.join(viable))})"
 
 
@@ -267,17 +271,15 @@ def limit_row(way):
     """The tokens that are too deep after what stands in front of the fault of a way, and those that go on."""
     times, at = most_times(way, LIMIT)
     tokens = lex(way_text(way, times + 1))[:at]
-    any_depth, within = chart_of(tokens, ANY, NO_LIMIT)[0].terminals(), chart_of(tokens, NEAREST, LIMIT)[0].terminals()
-    deep, going = [], []
-    for sample in SAMPLES:
-        token = lex(sample)[0]
-        if any(fits(terminal, token) for terminal in within):
-            going.append(sample)
-        elif any(fits(terminal, token) for terminal in any_depth):
-            deep.append(sample)
-        found = descend(tokens + [token], LIMIT)
-        wanted = None if sample in going else ("Depth" if sample in deep else "NotHere", at)
-        assert found == wanted if wanted else found[0].startswith("(") or found == ("NotHere", at + 1)
+    faults = {sample: compare(tokens + lex(sample), LIMIT) for sample in SAMPLES}
+    deep = [sample for sample, fault in faults.items() if fault == ("Depth", at)]
+    going = [sample for sample, fault in faults.items() if fault in (None, ("NotHere", at + 1))]
+    assert all(faults[sample] == ("NotHere", at) for sample in SAMPLES if sample not in deep + going)
+    if BOTH:
+        any_depth, within = (chart_of(tokens, *how)[0].terminals() for how in ((ANY, NO_LIMIT), (NEAREST, LIMIT)))
+        fitting = [sample for sample in SAMPLES if any(fits(terminal, lex(sample)[0]) for terminal in within)]
+        any_fitting = [sample for sample in SAMPLES if any(fits(terminal, lex(sample)[0]) for terminal in any_depth)]
+        assert going == fitting and deep == [sample for sample in any_fitting if sample not in fitting], way
     return f"({literal(' '.join(deep))}, {literal(' '.join(going))})"
 
 
@@ -311,13 +313,10 @@ def main(words):
     if words[:1] == ["check"]:
         numbers = [int(word) for word in words[1:]] + [2000, 7][len(words) - 1 :]
         check(*numbers)
-    elif words == ["write"]:
+    elif not words:
         for file, make in files().items():
-            path = Path(__file__).parent.parent / "crates/grammar_rows/src" / f"{file}.rt"
-            path.parent.mkdir(exist_ok=True)
-            path.write_text(make(file))
-    elif len(words) == 1 and words[0] in files():
-        print(files()[words[0]](words[0]), end="")
+            print(f"file: crates/grammar_rows/src/{file}.rt")
+            print(make(file))
     else:
         sys.exit(__doc__)
 

@@ -1,8 +1,5 @@
 #!/usr/bin/env python3
-"""Prints the tables of crates/fix_num/src/tests/tables.rt, computed with exact fractions and integers.
-
-    python3 tools/fix_num_cases.py >crates/fix_num/src/tests/tables.rt && (cd crates/fix_num && rt fmt)
-"""
+"""Prints the tables of crates/fix_num/src/tests/tables.rt, computed with exact fractions and integers."""
 from bisect import bisect_left
 from fractions import Fraction
 from math import floor, isqrt
@@ -115,7 +112,7 @@ def decimal(text):
 
 def table(name, comment, kinds, rows):
     print(f"\n// {comment}")
-    print(f"pub(super) const {name}: [({', '.join(kinds)}); {len(rows)}] = [")
+    print(f"pub(super) static {name}: [({', '.join(kinds)}); {len(rows)}] = [")
     for row in rows:
         print(f"    ({', '.join(str(x) for x in row)}),")
     print("];")
@@ -194,19 +191,40 @@ FAULTY = [
 LONG = [b"1" + b"0" * 25, b"0.10000000000000000000000000", b"12345678901234567890123456", b"1.0000000000000000000000000", b"-.12345678901234567890123456", b"00012345678901234567890123456e-30", b"1" * 60, b"10000000000000000000000000e5"]
 
 
+WORKED_RAWS = [
+    (b"0.0", 0), (b"1.0", 4294967296), (b"1.", 4294967296), (b"2", 8589934592), (b"60000.0", 257698037760000),
+    (b"1e40", 9223372036854775807), (b"0.0000000000000000000000000001", 0),
+]
+WORKED_HALVES = [(b"0.1", 429391872), (b"2049", 2048 * ONE), (b"2051", 2052 * ONE), (b"65520", 65504 * ONE)]
+WORKED_INTS = [
+    ("Add", 2147483647, 1, -2147483648), ("Div", -2147483648, -1, -2147483648), ("Div", 7, 0, 0), ("Div", -7, 2, -3), ("Rem", -7, 2, -1), ("Shl", 1, 33, 2),
+]
+
+
 def text(b):
     return 'b"' + "".join(chr(c) if 32 <= c < 127 and c not in (34, 92) else f"\\x{c:02x}" for c in b) + '"'
 
 
 def main():
+    print("file: crates/fix_num/src/tests/tables.rt")
     print("//! Cases at the edges, computed with exact fractions and integers.")
     print("//!")
-    print("//! Made by `python3 tools/fix_num_cases.py` and laid out by `rt fmt`.\n")
+    print("//! Printed by tools/fix_num_tables.py.\n")
     print("use crate::WholeOp;\n")
-    print("pub(super) const OPERATIONS: [WholeOp; 10] = [")
+    print("pub(super) static OPERATIONS: [WholeOp; 10] = [")
     for op in OPS:
         print(f"    WholeOp::{op},")
     print("];")
+    # worked by hand: each value is written here, and compared with what is computed
+    for t, raw in WORKED_RAWS:
+        assert decimal(t) == raw, t
+    table("WORKED_RAWS", "A spelling and its raw.", ["&[u8]", "i64"], [(text(t), raw) for t, raw in WORKED_RAWS])
+    for t, raw in WORKED_HALVES:
+        assert half(decimal(t)) == raw, t
+    table("WORKED_HALVES", "A spelling and the raw of its half.", ["&[u8]", "i64"], [(text(t), raw) for t, raw in WORKED_HALVES])
+    for op, a, b, z in WORKED_INTS:
+        assert whole(op, True, a, b) == z, (op, a, b)
+    table("WORKED_INTS", "An operation, two ints and what it gives.", ["WholeOp", "i32", "i32", "i32"], [(f"WholeOp::{op}", a, b, z) for op, a, b, z in WORKED_INTS])
     sums = sorted({(a, b) for a in EDGES for b in (1, 2**32, MAX - 1, MAX)} | {(-a, b) for a in EDGES for b in (-1, 1, -MAX)})
     table("SUMS", "Two raws, and the raws of their sum and of their difference.", ["i64", "i64", "i64", "i64"], [(a, b, sat(a + b), sat(a - b)) for a, b in sums])
     rounded = sorted({(n, d) for d in (1, 2, 3, 7, 10, 2**32 - 1) for n in (-MAX, -d, -d // 2 - 1, -d // 2, -d // 2 + 1, -1, 0, 1, d // 2, d // 2 + 1, d - 1, d, 3 * d // 2, MAX)})
@@ -224,9 +242,9 @@ def main():
     squares = sorted({n * n + d for n in (1, 2, 3, 2**32, 2**32 + 1, 2**62, 2**62 + 12345, 2**63, 2**64 - 2, 2**64 - 1) for d in (-1, 0, 1)} | {0, 2**127, 2**128 - 1})
     table("ISQRTS", "A number and its square root, rounded down.", ["u128", "u64"], [(n, isqrt(n)) for n in squares])
     numbers = [0, 1, -1, ONE - 1, ONE, ONE + 1, -ONE + 1, -ONE, -ONE - 1, 3 * ONE // 2, -3 * ONE // 2, MAX, MAX - ONE, -MAX, -MAX + ONE]
-    table("CONVERSIONS", "A raw, the raw of its floor, its int and its unsigned.", ["i64", "i64", "i32", "u32"], [(r, sat(ONE * floor(Fraction(r, ONE))), trunc(Fraction(r, ONE)), max(0, trunc(Fraction(r, ONE)))) for r in numbers])
-    table("FROM_INTS", "An int and its raw.", ["i32", "i64"], [(n, sat(n * ONE)) for n in (0, 1, -1, 2**31 - 1, -(2**31) + 1, -(2**31))])
-    table("FROM_UNSIGNED", "An unsigned and its raw.", ["u32", "i64"], [(n, sat(n * ONE)) for n in (0, 1, 2**31 - 1, 2**31, 2**32 - 1)])
+    table("CONVERSIONS", "A raw, its size, the raw of its floor, its int and its unsigned.", ["i64", "i64", "i64", "i32", "u32"], [(r, abs(r), sat(ONE * floor(Fraction(r, ONE))), trunc(Fraction(r, ONE)), max(0, trunc(Fraction(r, ONE)))) for r in numbers])
+    table("FROM_INTS", "An int, its raw, the raw of its half, and the unsigned that it becomes.", ["i32", "i64", "i64", "u32"], [(n, sat(n * ONE), half(sat(n * ONE)), n % 2**32) for n in (0, 1, -1, 2049, -2051, 2**31 - 1, -(2**31) + 1, -(2**31))])
+    table("FROM_UNSIGNED", "An unsigned, its raw, the raw of its half, and the int that it becomes.", ["u32", "i64", "i64", "i32"], [(n, sat(n * ONE), half(sat(n * ONE)), n - 2**32 if n >= 2**31 else n) for n in (0, 1, 2049, 65520, 2**31 - 1, 2**31, 2**32 - 1)])
     table("CODES", "Depth, code and raw.", ["u8", "u16", "i64"], [(b, c, nearest(Fraction(c * ONE, 2**b - 1))) for b in (8, 10, 16) for c in (0, 1, 2 ** (b - 1) - 1, 2 ** (b - 1), 2**b - 2, 2**b - 1)])
     outs = [(b, r) for b in (8, 10, 16) for r in (-MAX, -1, 0, 1, ONE // 2 - 1, ONE // 2, ONE // 2 + 1, ONE - 1, ONE, ONE + 1, MAX)]
     table("CODES_OUT", "Depth, raw and code.", ["u8", "i64", "u16"], [(b, r, nearest(Fraction(max(0, min(ONE, r)) * (2**b - 1), ONE))) for b, r in outs])
@@ -240,12 +258,12 @@ def main():
     assert all(decimal(t) == "NotANumber" for t in FAULTY) and all(decimal(t) == "TooManyDigits" for t in LONG)
     table("DECIMALS", "A spelling and its raw.", ["&[u8]", "i64"], [(text(t), decimal(t)) for t in DECIMALS])
     print("\n// Texts that are no spelling.")
-    print(f"pub(super) const FAULTY: [&[u8]; {len(FAULTY)}] = [")
+    print(f"pub(super) static FAULTY: [&[u8]; {len(FAULTY)}] = [")
     for t in FAULTY:
         print(f"    {text(t)},")
     print("];")
     print("\n// Spellings of more than 25 significant digits.")
-    print(f"pub(super) const LONG: [&[u8]; {len(LONG)}] = [")
+    print(f"pub(super) static LONG: [&[u8]; {len(LONG)}] = [")
     for t in LONG:
         print(f"    {text(t)},")
     print("];")
