@@ -3,7 +3,7 @@
 FRACTION = 32
 
 # The codes of six pixels at ten bits, line by line, two a line.
-PIXELS = [(1023, 0, 512), (1, 2, 3), (4, 1020, 341), (682, 1022, 7), (0, 511, 1023), (100, 333, 900)]
+CODES = [(1023, 0, 512), (1, 2, 3), (4, 1020, 341), (682, 1022, 7), (0, 511, 1023), (100, 333, 900)]
 
 
 def rnd(n, d):
@@ -20,14 +20,18 @@ def word(codes):
     return red << 22 | green << 12 | blue << 2
 
 
+def print_words(name, pixels):
+    words = ", ".join("0x%08X" % word(pixel) for pixel in pixels)
+    print("pub static %s: [u32; %d] = [\n    %s,\n];" % (name, len(pixels), words))
+
+
 def main():
     print("file: crates/rows/src/tables.rt")
     print("//! Printed by tools/rows_tables.py.\n")
-    print("/// Words of pixels of ten bits, each with the word of the pixel whose channels are its halves.")
-    print("pub static HALVES: [(u32, u32); %d] = [" % len(PIXELS))
-    for pixel in PIXELS:
-        print("    (0x%08X, 0x%08X)," % (word(pixel), word(tuple(half(code) for code in pixel))))
-    print("];")
+    print("/// Words of pixels of ten bits.")
+    print_words("PIXELS", CODES)
+    print("\n/// The words of the pixels whose channels are their halves.")
+    print_words("HALVES", [[half(code) for code in codes] for codes in CODES])
 
 
 if __name__ == "__main__":

@@ -1,23 +1,19 @@
 //! Sources that keep the rules of the format, and sources that break each.
 
-use crate::fixture::{HALF, HALF_PIXEL, PIXEL, SAME, WORDS, dpx, dpx_of, files, little, run};
-use crate::tables::HALVES;
+use crate::fixture::{
+    HALF, HALF_PIXEL, PIXEL, SAME, WORDS, Wanted, dpx, dpx_of, ends, given, little, refused,
+    stores, stores_pixel,
+};
+use crate::tables::{HALVES, PIXELS};
 use ctl_base::Memory;
 use dpx_file::DpxFault;
-use render_command::{ImageFault, Status};
 use std::alloc::Global;
 
 #[test]
 fn each_line_is_rendered_in_its_place(rt: HostRuntime) -> Result<(), Memory> {
-    let mut pixels = Vec::new(rt.alloc());
-    let mut halves = Vec::new(rt.alloc());
-    for (pixel, half) in HALVES.iter().copied() {
-        pixels.push(pixel)?;
-        halves.push(half)?;
-    }
-    let source = dpx(rt.alloc(), 2, 3, &pixels)?;
-    let stored = dpx(rt.alloc(), 2, 3, &halves)?;
-    assert!(rt; is_stored(rt.alloc(), HALF, &source, &stored)?);
+    let source = dpx(rt.alloc(), 2, 3, &PIXELS)?;
+    let stored = dpx(rt.alloc(), 2, 3, &HALVES)?;
+    assert!(rt; stores(rt.alloc(), HALF.as_bytes(), &source, &stored)?);
     Ok(())
 }
 
@@ -39,33 +35,26 @@ static BIG_LINES: [u8; 36] = [
 fn sixteen_bits_of_little_numbers_are_stored_big(rt: HostRuntime) -> Result<(), Memory> {
     let source = little(rt.alloc(), 3, 2, 16, 2, &LITTLE_LINES)?;
     let stored = dpx_of(rt.alloc(), 3, 2, 16, &BIG_LINES)?;
-    assert_eq!(rt; stored.len(), 2084);
-    assert!(rt; is_stored(rt.alloc(), SAME, &source, &stored)?);
+    assert!(rt; stored.len() == 2084);
     // What is stored keeps the rules, and is stored as it is.
-    assert!(rt; is_stored(rt.alloc(), SAME, &stored, &stored)?);
+    for (case, file) in [&source, &stored].into_iter().enumerate() {
+        assert!(rt;
+            stores(rt.alloc(), SAME.as_bytes(), file, &stored)?,
+            "case {case}"
+        );
+    }
     Ok(())
 }
+
+/// Two lines of a pixel of ten bits with little numbers, and a byte behind the first.
+static LITTLE_WORDS: [u8; 9] = [0, 8, 0xC0, 0xFF, 7, 0, 8, 0xC0, 0xFF];
 
 #[test]
 fn ten_bits_of_little_numbers_are_stored_big(rt: HostRuntime) -> Result<(), Memory> {
-    let source = little(
-        rt.alloc(),
-        1,
-        2,
-        10,
-        1,
-        &[0, 8, 0xC0, 0xFF, 7, 0, 8, 0xC0, 0xFF],
-    )?;
+    let source = little(rt.alloc(), 1, 2, 10, 1, &LITTLE_WORDS)?;
     let stored = dpx(rt.alloc(), 1, 2, &[HALF_PIXEL, HALF_PIXEL])?;
-    assert!(rt; is_stored(rt.alloc(), HALF, &source, &stored)?);
+    assert!(rt; stores(rt.alloc(), HALF.as_bytes(), &source, &stored)?);
     Ok(())
-}
-
-/// Whether the command stores this for the source.
-fn is_stored(alloc: Global, text: &str, source: &[u8], stored: &[u8]) -> Result<bool, Memory> {
-    let mut files = files(alloc, text.as_bytes(), source, &[], 0)?;
-    let (status, _) = run(alloc, &mut files, &WORDS)?;
-    Ok(status.code() == 0 && files.held("out.dpx") == Some(stored))
 }
 
 /// A change of the source of one pixel: from where on which bytes.
@@ -91,71 +80,73 @@ fn byte_at(changes: &[Change], place: usize, byte: u8) -> u8 {
     byte
 }
 
-/// Whether the command refuses that source by the fault, tells its kind, and stores nothing.
-fn is_refused(alloc: Global, source: &[u8], fault: DpxFault, kind: &[u8]) -> Result<bool, Memory> {
-    let mut files = files(alloc, HALF.as_bytes(), source, &[], 0)?;
-    let (status, console) = run(alloc, &mut files, &WORDS)?;
-    let told = console
-        .text()
-        .strip_prefix(b"ctlrender: image: ".as_slice())
-        .and_then(|rest| rest.strip_suffix(b"\n".as_slice()));
-    let is_fault = match &status {
-        Status::Image {
-            fault: ImageFault::Dpx(met),
-        } => *met == fault,
-        _ => false,
-    };
-    Ok(is_fault && status.code() == 8 && told == Some(kind) && files.held("out.dpx").is_none())
-}
-
-/// The length that is left of a source, what is needed and what is there.
-static CUT: [(usize, u64); 8] = [
-    (4, 2048),
-    (772, 2048),
-    (803, 2048),
-    (2047, 2048),
-    (2048, 2052),
-    (2049, 2052),
-    (2050, 2052),
-    (2051, 2052),
+/// The length that is left of a source, and how many bytes are needed where the magic number is left.
+static CUT: [(usize, Option<u64>); 12] = [
+    (0, None),
+    (1, None),
+    (2, None),
+    (3, None),
+    (4, Some(2048)),
+    (772, Some(2048)),
+    (803, Some(2048)),
+    (2047, Some(2048)),
+    (2048, Some(2052)),
+    (2049, Some(2052)),
+    (2050, Some(2052)),
+    (2051, Some(2052)),
 ];
 
 #[test]
 fn a_source_that_is_cut_is_told_with_its_lengths(rt: HostRuntime) -> Result<(), Memory> {
-    for length in 0..4 {
-        let source = changed(rt.alloc(), &[], length)?;
-        assert!(rt; is_refused(rt.alloc(), &source, DpxFault::NotDpx, b"NotDpx")?);
-    }
     for (length, need) in CUT.iter().copied() {
-        let source = changed(rt.alloc(), &[], length)?;
-        let have = length as u64;
-        let fault = DpxFault::Truncated { need, have };
-        assert!(rt; is_refused(rt.alloc(), &source, fault, b"Truncated")?);
+        assert!(rt; is_cut(rt.alloc(), length, need)?, "{length} bytes");
     }
     Ok(())
 }
 
-/// Changes, the fault that is told, and its kind.
-type Broken = (&'static [Change], DpxFault, &'static [u8]);
+fn is_cut(alloc: Global, length: usize, need: Option<u64>) -> Result<bool, Memory> {
+    let source = changed(alloc, &[], length)?;
+    let have = length as u64;
+    match need {
+        Some(need) => is_refused(
+            alloc,
+            &source,
+            DpxFault::Truncated { need, have },
+            "image: Truncated",
+        ),
+        None => is_refused(alloc, &source, DpxFault::NotDpx, "image: NotDpx"),
+    }
+}
+
+/// Changes, the fault that is told, and its line.
+type Broken = (&'static [Change], DpxFault, &'static str);
 
 static BROKEN: [Broken; 16] = [
-    (&[(0, b"SDPY")], DpxFault::NotDpx, b"NotDpx"),
-    (&[(660, &[0, 0, 0, 5])], DpxFault::Encrypted, b"Encrypted"),
+    (&[(0, b"SDPY")], DpxFault::NotDpx, "image: NotDpx"),
+    (
+        &[(660, &[0, 0, 0, 5])],
+        DpxFault::Encrypted,
+        "image: Encrypted",
+    ),
     // The key is looked at before the encoding.
     (
         &[(660, &[0, 0, 0, 5]), (806, &[0, 1])],
         DpxFault::Encrypted,
-        b"Encrypted",
+        "image: Encrypted",
     ),
-    (&[(768, &[0, 1])], DpxFault::Orientation(1), b"Orientation"),
-    (&[(770, &[0, 2])], DpxFault::Elements(2), b"Elements"),
+    (
+        &[(768, &[0, 1])],
+        DpxFault::Orientation(1),
+        "image: Orientation",
+    ),
+    (&[(770, &[0, 2])], DpxFault::Elements(2), "image: Elements"),
     (
         &[(772, &[0, 0, 64, 1])],
         DpxFault::Size {
             width: 16_385,
             height: 1,
         },
-        b"Size",
+        "image: Size",
     ),
     (
         &[(776, &[0, 0, 0, 0])],
@@ -163,20 +154,28 @@ static BROKEN: [Broken; 16] = [
             width: 1,
             height: 0,
         },
-        b"Size",
+        "image: Size",
     ),
-    (&[(780, &[0, 0, 0, 1])], DpxFault::Sign(1), b"Sign"),
-    (&[(800, &[51])], DpxFault::Descriptor(51), b"Descriptor"),
-    (&[(803, &[12])], DpxFault::Depth(12), b"Depth"),
-    (&[(804, &[0, 0])], DpxFault::Packing(0), b"Packing"),
-    (&[(806, &[0, 1])], DpxFault::Compressed(1), b"Compressed"),
+    (&[(780, &[0, 0, 0, 1])], DpxFault::Sign(1), "image: Sign"),
+    (
+        &[(800, &[51])],
+        DpxFault::Descriptor(51),
+        "image: Descriptor",
+    ),
+    (&[(803, &[12])], DpxFault::Depth(12), "image: Depth"),
+    (&[(804, &[0, 0])], DpxFault::Packing(0), "image: Packing"),
+    (
+        &[(806, &[0, 1])],
+        DpxFault::Compressed(1),
+        "image: Compressed",
+    ),
     (
         &[(808, &[255, 255, 255, 254])],
         DpxFault::Truncated {
             need: 4_294_967_298,
             have: 2052,
         },
-        b"Truncated",
+        "image: Truncated",
     ),
     (
         &[(776, &[0, 0, 0, 2]), (812, &[255, 255, 255, 254])],
@@ -184,7 +183,7 @@ static BROKEN: [Broken; 16] = [
             need: 4_294_969_350,
             have: 2052,
         },
-        b"Truncated",
+        "image: Truncated",
     ),
     (
         &[(776, &[0, 0, 0, 2])],
@@ -192,7 +191,7 @@ static BROKEN: [Broken; 16] = [
             need: 2056,
             have: 2052,
         },
-        b"Truncated",
+        "image: Truncated",
     ),
     (
         &[(803, &[16]), (804, &[0, 0])],
@@ -200,17 +199,27 @@ static BROKEN: [Broken; 16] = [
             need: 2054,
             have: 2052,
         },
-        b"Truncated",
+        "image: Truncated",
     ),
 ];
 
 #[test]
 fn each_rule_of_the_format_refuses_the_source(rt: HostRuntime) -> Result<(), Memory> {
-    for (changes, fault, kind) in BROKEN.iter().copied() {
+    for (changes, fault, line) in BROKEN.iter().copied() {
         let source = changed(rt.alloc(), changes, 2052)?;
-        assert!(rt; is_refused(rt.alloc(), &source, fault, kind)?, "{fault}");
+        assert!(rt; is_refused(rt.alloc(), &source, fault, line)?, "{fault}");
     }
     Ok(())
+}
+
+// Whether the command refuses that source by the fault, says its line, and stores nothing.
+fn is_refused(alloc: Global, source: &[u8], fault: DpxFault, line: &str) -> Result<bool, Memory> {
+    let held = [("half.ctl", HALF.as_bytes()), ("in.dpx", source)];
+    let wanted = Wanted {
+        fault: Some(fault),
+        ..refused(8, line, 3)
+    };
+    ends(alloc, &given(&held, &WORDS), &wanted)
 }
 
 /// Changes, and the pixel that is stored for the source with each channel as it is.
@@ -229,8 +238,10 @@ static KEPT: [(&[Change], u32); 6] = [
 fn a_source_that_keeps_each_rule_is_taken(rt: HostRuntime) -> Result<(), Memory> {
     for (changes, pixel) in KEPT.iter().copied() {
         let source = changed(rt.alloc(), changes, 2052)?;
-        let stored = dpx(rt.alloc(), 1, 1, &[pixel])?;
-        assert!(rt; is_stored(rt.alloc(), SAME, &source, &stored)?, "{pixel}");
+        assert!(rt;
+            stores_pixel(rt.alloc(), SAME.as_bytes(), &source, pixel)?,
+            "{pixel}"
+        );
     }
     Ok(())
 }
