@@ -1,0 +1,4 @@
+mod Constants
+mod Growing
+mod LibraryStands
+mod Shapes

@@ -1,0 +1,10 @@
+//! Checked programs: the definitions so far and the whole program, each under its invariant.
+#![tactic(auto)]
+
+pub use definitions::Definitions;
+pub use program::Program;
+
+mod definitions;
+mod program;
+#[cfg(test)]
+mod tests;

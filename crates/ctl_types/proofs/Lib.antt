@@ -1,0 +1,6 @@
+mod Counted
+mod Filled
+mod Flat
+mod Layers
+mod Shapes
+mod Stretches
