@@ -1,7 +1,7 @@
 """Reads files of definitions: what each one is named, what it says, and which names it rests on.
 
-It works on the text, by the layout that `rt fmt` gives: an item begins at the left edge, or two blanks in where it
-stands under `mutual`.
+It works on the text, by the layout that `rt fmt` gives: an item begins at the left edge, or two blanks further in where
+it stands under `mutual` or in a module with parameters.
 """
 import re
 
@@ -66,10 +66,16 @@ class Module:
                     self.passed_on.update(names)
 
     def read_definitions(self, lines):
-        current, comment, indent = None, [], 0
+        current, comment, indents = None, [], [0]
         for line in lines:
-            if line.strip() and not line.startswith(" "):
-                indent = 2 if line.startswith("mutual") else 0
+            depth = len(line) - len(line.lstrip())
+            while line.strip() and indents[-1] > depth:
+                indents.pop()
+            if depth == indents[-1] and line.strip().startswith(("mutual", "module _")):
+                indents.append(depth + 2)
+                current, comment = None, []
+                continue
+            indent = indents[-1]
             head = head_of(line, indent)
             is_comment = re.match(r" *--", line) and len(line) - len(line.lstrip()) <= indent
             if head:
@@ -80,7 +86,7 @@ class Module:
                 continue
             elif line.startswith("infix"):
                 continue
-            elif re.match(r"(pub )?(use|mod) |mutual", line):
+            elif re.match(r"(pub )?(use|mod) ", line):
                 current = None
             elif line.strip() and current:
                 current.lines.append(line)
