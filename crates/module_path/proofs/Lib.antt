@@ -1,0 +1,12 @@
+pub mod Order
+pub mod FolderParts
+pub mod Fetching
+pub mod Steps
+pub mod Texts
+pub mod Tries
+pub mod Known
+pub mod AtMostOne
+pub mod AtLeastOne
+pub mod Once
+pub mod First
+pub mod Last
