@@ -1,0 +1,16 @@
+pub mod Values
+pub mod Ranges
+pub mod Runs
+pub mod Shapes
+pub mod Around
+pub mod Places
+pub mod Calls
+pub mod Initialisers
+pub mod Statements
+pub mod Functions
+pub mod Structs
+pub mod Entries
+pub mod Programs
+pub mod Library
+pub mod Twins
+pub mod Counts
