@@ -146,7 +146,7 @@ def line_of(text, rows):
 
 
 def main():
-    print("file: crates/ctl_lexer/src/tests/tables.rt")
+    print("file: crates/text_rows/src/tokens/tables.rt")
     print(HEAD)
     for name, cases in JOINED.items():
         print(f"pub(super) static {name}: (&[u8], &[Row]) =")

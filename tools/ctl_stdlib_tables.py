@@ -183,7 +183,7 @@ def show(name, comment, kind, lines):
 
 
 def main():
-    print("file: crates/ctl_stdlib/src/tests/tables.rt")
+    print("file: crates/number_rows/src/library/tables.rt")
     print("//! Arguments of each function, and what it gives.")
     print("//!")
     print("//! Printed by tools/ctl_stdlib_tables.py.\n")

@@ -62,7 +62,7 @@ def table(name, comment, *image):
 
 
 def main():
-    print('file: crates/dpx_file/src/tests.rt')
+    print('file: crates/file_rows/src/images.rt')
     table('ONE_PIXEL', 'The header of one pixel of ten bits as runs of equal bytes.', 1, 1, 10)
     table('SIX_PIXELS', 'The same for three pixels by two of sixteen bits.', 3, 2, 16)
 

@@ -312,7 +312,7 @@ def main():
     inputs = inputs_of(PIXEL)
     check_chains(inputs.values())
     check_tests(inputs)
-    print("file: crates/first_text/src/tests.rt")
+    print("file: crates/text_rows/src/first_texts.rt")
     outputs = "[i64; 3]"
     table("ACCEPTED", "What follows the head, and the three outputs.", outputs, accepted(ACCEPTED, HEAD, inputs))
     table("ACCEPTED_WHOLE", "Whole texts, and the three outputs.", outputs, accepted(ACCEPTED_WHOLE, "", inputs))

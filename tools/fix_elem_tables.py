@@ -157,7 +157,7 @@ def print_constants():
 
 
 print_constants()
-print("""file: crates/fix_elem/src/tests/tables.rt
+print("""file: crates/number_rows/src/elementary/tables.rt
 //! Cases at the edges, computed with exact whole numbers.
 //!
 //! Printed by tools/fix_elem_tables.py.

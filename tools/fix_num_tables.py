@@ -1,5 +1,5 @@
 #!/usr/bin/env python3
-"""Prints the tables of crates/fix_num/src/tests/tables.rt, computed with exact fractions and integers."""
+"""Prints the tables of crates/number_rows/src/numbers/tables.rt, computed with exact fractions and integers."""
 from bisect import bisect_left
 from fractions import Fraction
 from math import floor, isqrt
@@ -206,7 +206,7 @@ def text(b):
 
 
 def main():
-    print("file: crates/fix_num/src/tests/tables.rt")
+    print("file: crates/number_rows/src/numbers/tables.rt")
     print("//! Cases at the edges, computed with exact fractions and integers.")
     print("//!")
     print("//! Printed by tools/fix_num_tables.py.\n")

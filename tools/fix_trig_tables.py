@@ -198,7 +198,7 @@ def print_rows(name, comment, rows):
 
 check()
 print_turns()
-print("file: crates/fix_trig/src/tests/tables.rt")
+print("file: crates/number_rows/src/trigonometric/tables.rt")
 print("//! Exact values of the angle functions.")
 print("//!")
 print("//! Printed by tools/fix_trig_tables.py.")

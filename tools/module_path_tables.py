@@ -237,7 +237,7 @@ FAILING = (
     + [row('p:q', {'r.ctl': (['A'],)}, k) for k in range(1, 5)]
 )
 
-print('file: crates/module_path/src/tests/tables.rt')
+print('file: crates/text_rows/src/modules/tables.rt')
 print('//! Printed by tools/module_path_tables.py.\n')
 print('use super::{Case, Many};\n')
 table('ORDER', 'Modules after their imports, these in order, each once.', ORDER)

@@ -284,7 +284,7 @@ def colours():
 
 
 def main():
-    print("file: crates/table_lookup/src/tests/tables.rt")
+    print("file: crates/number_rows/src/lookups/tables.rt")
     print("//! Cases at the edges, computed with exact integers and fractions.")
     print("//!")
     print("//! Printed by tools/table_lookup_tables.py.")

@@ -13,8 +13,6 @@ mod laws;
 mod names;
 mod numbers;
 mod signs;
-#[cfg(test)]
-mod tests;
 mod texts;
 mod tokens;
 mod wholes;

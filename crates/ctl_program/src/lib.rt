@@ -6,5 +6,3 @@ pub use program::Program;
 
 mod definitions;
 mod program;
-#[cfg(test)]
-mod tests;

@@ -18,6 +18,4 @@ mod names;
 mod row;
 mod shapes;
 mod tables;
-#[cfg(test)]
-mod tests;
 mod vectors;

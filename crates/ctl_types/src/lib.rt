@@ -23,6 +23,4 @@ mod row;
 mod scalar;
 mod shape;
 mod statement;
-#[cfg(test)]
-mod tests;
 mod value;

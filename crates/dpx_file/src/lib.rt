@@ -11,8 +11,6 @@ mod law;
 mod layout;
 mod pixels;
 mod reading;
-#[cfg(test)]
-mod tests;
 mod writing;
 
 pub use canvas::Canvas;

@@ -5,8 +5,6 @@ mod part;
 mod read;
 mod refusal;
 mod run;
-#[cfg(test)]
-mod tests;
 mod tree;
 
 pub use part::Part;

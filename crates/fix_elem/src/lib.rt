@@ -11,5 +11,3 @@ mod general;
 mod laws;
 mod logarithms;
 mod powers;
-#[cfg(test)]
-mod tests;

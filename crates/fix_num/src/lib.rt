@@ -27,8 +27,6 @@ mod ranges;
 mod roots;
 mod rounding;
 mod spelling;
-#[cfg(test)]
-mod tests;
 
 /// The number of fraction bits.
 pub const FRACTION: u32 = 32;

@@ -8,6 +8,4 @@ pub use turn::turns_fit;
 mod arc;
 mod circle;
 mod constants;
-#[cfg(test)]
-mod tests;
 mod turn;

@@ -12,5 +12,3 @@ mod folders;
 mod laws;
 mod loading;
 mod reading;
-#[cfg(test)]
-mod tests;

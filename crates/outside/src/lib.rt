@@ -15,5 +15,3 @@ pub use disk_box::DiskBox;
 pub use files::{Failed, FetchFault, Fetched, FileBox};
 pub use mem_box::MemBox;
 
-#[cfg(test)]
-mod tests;

@@ -15,8 +15,6 @@ mod curve;
 mod lattice;
 pub mod matrix;
 mod pairs;
-#[cfg(test)]
-mod tests;
 mod uniform;
 
 use fix_num::FRACTION;

@@ -2,7 +2,7 @@
 //!
 //! Printed by tools/fix_num_tables.py.
 
-use crate::WholeOp;
+use fix_num::WholeOp;
 
 pub(super) static OPERATIONS: [WholeOp; 10] = [
     WholeOp::Add,

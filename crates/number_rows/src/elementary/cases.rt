@@ -1,7 +1,7 @@
 //! The functions on the tables, and on worked values.
 
 use super::tables::{LOGARITHMS, PAIRS, POWERS};
-use crate::{exp, exp2, fmod, hypot, log, log2, log10, pow, pow10, sqrt};
+use fix_elem::{exp, exp2, fmod, hypot, log, log2, log10, pow, pow10, sqrt};
 use fix_num::{Fix, saturated};
 use std::process::Abort;
 

@@ -5,7 +5,7 @@ mod tables;
 ghost use Rattle.std.specs.Prelude.{◌<◌};
 
 use self::tables::{CYCLES, FAILING, FOLDERS, MANY, ORDER, REFUSED};
-use crate::{
+use module_path::{
     LoadFault, asks_for_the_first, at_least_one, at_most_one, each_once, load, read_fault_is_last,
 };
 use ctl_base::Memory;

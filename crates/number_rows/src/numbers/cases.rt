@@ -5,7 +5,7 @@ use super::tables::{
     ISQRTS, LONG, OPERATIONS, PRODUCTS, QUOTIENTS, ROOTS, ROUNDED, SHIFTED, SUMS, TIMES,
     UNSIGNED_CASES, WORKED_HALVES, WORKED_INTS, WORKED_RAWS,
 };
-use crate::{
+use fix_num::{
     Fix, LOG2_TEN, LiteralFault, as_int, as_unsigned, isqrt, of_bool, read_decimal, rnd, rnd_shift,
     saturated, truth, whole,
 };

@@ -1,6 +1,6 @@
 //! Files of a few pixels in both byte orders and at both depths, each fault, and every byte of the written form.
 
-use super::*;
+use dpx_file::*;
 use byteorder::{BigEndian, ByteOrder, LittleEndian};
 use std::alloc::{AllocError, Global};
 use std::test::*;

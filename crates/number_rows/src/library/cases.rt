@@ -11,7 +11,7 @@ use super::tables::{
     MULT_F3_F44, MULT_F33_F33, MULT_F44_F44, PAIRED, POW, POW_H, POW10, POW10_H, RGB_TO_XYZ, SIN,
     SPREAD, SQRT, SUBTRACT_F3_F3, TAN, TRANSPOSE_F33, TRANSPOSE_F44, XYZ_TO_RGB,
 };
-use crate::{LibraryId, call, find, find_constant, params, result};
+use ctl_stdlib::{LibraryId, call, find, find_constant, params, result};
 use fix_num::{Fix, saturated};
 use std::process::Abort;
 

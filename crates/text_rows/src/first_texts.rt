@@ -1,6 +1,6 @@
 //! First texts with their outputs, and texts that are none.
 
-use super::{Colour, FirstText, one_tree, read_first_text};
+use first_text::{Colour, FirstText, one_tree, read_first_text};
 use ctl_base::Memory;
 use ctl_lexer::{LexFault, lex};
 use fix_num::Fix;

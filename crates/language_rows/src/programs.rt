@@ -1,6 +1,6 @@
 //! The call that takes memory, run once.
 
-use crate::Definitions;
+use ctl_program::Definitions;
 use ctl_base::Memory;
 use ctl_tree::Units;
 

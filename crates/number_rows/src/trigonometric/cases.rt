@@ -1,7 +1,7 @@
 //! The functions on the tables, and on worked values.
 
 use super::tables::{ANGLES, POINTS, SHARES};
-use crate::{acos, asin, atan, atan2, cos, sin, tan};
+use fix_trig::{acos, asin, atan, atan2, cos, sin, tan};
 use fix_num::{Fix, saturated};
 use std::process::Abort;
 

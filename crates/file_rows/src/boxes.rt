@@ -4,7 +4,7 @@ ghost use Rattle.std.specs.Prelude.{◌≡◌, IfOk, vec_len};
 
 mod faulty;
 
-use crate::{
+use outside::{
     Console, DiskBox, Failed, FetchFault, Fetched, FileBox, MemBox, MemConsole, OutConsole,
 };
 use faulty::{FaultyFiles, FaultyOutput, Turn};

@@ -1,6 +1,6 @@
 //! Calls that take memory, each run once.
 
-use crate::{Extent, OpenSizes, RowParam, Scalar, Shape, Size, SizeList, Value, row_of};
+use ctl_types::{Extent, OpenSizes, RowParam, Scalar, Shape, Size, SizeList, Value, row_of};
 use ctl_base::{Memory, ScalarKind};
 use ctl_stdlib::LibraryId;
 use fix_num::Fix;

@@ -1,0 +1,9 @@
+//! Texts: their tokens, first texts, and modules by name over files in memory. Tests alone.
+#![tactic(auto)]
+
+#[cfg(test)]
+mod first_texts;
+#[cfg(test)]
+mod modules;
+#[cfg(test)]
+mod tokens;
