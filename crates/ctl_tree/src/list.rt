@@ -72,30 +72,3 @@ impl TokenList {
         self.tokens.as_slice()
     }
 }
-
-#[cfg(test)]
-mod tests {
-    use super::*;
-    use crate::{Sign, TokenKind};
-
-    #[test]
-    fn tokens_stand_in_the_order_in_which_they_came(rt: HostRuntime) -> Result<(), Memory> {
-        let mut tokens = TokenList::new(rt.alloc());
-        for at in 0..3u32 {
-            let token = Token {
-                kind: TokenKind::Sign(Sign::Semicolon),
-                at,
-                len: 1,
-                line: 1,
-            };
-            tokens.push(token)?;
-        }
-        assert_eq!(rt; tokens.as_slice().len(), 3);
-        for (token, at) in tokens.as_slice().iter().zip(0..3u32) {
-            assert_eq!(rt; token.at, at);
-        }
-        let again = TokenList::from_vec(tokens.into_vec());
-        assert_eq!(rt; again.as_slice().len(), 3);
-        Ok(())
-    }
-}

@@ -4,10 +4,10 @@ ghost use Rattle.std.specs.Prelude.{◌≡◌, IfOk, vec_len};
 
 mod faulty;
 
+use faulty::{FaultyFiles, FaultyOutput, Turn};
 use outside::{
     Console, DiskBox, Failed, FetchFault, Fetched, FileBox, MemBox, MemConsole, OutConsole,
 };
-use faulty::{FaultyFiles, FaultyOutput, Turn};
 use std::alloc::{AllocError, Global};
 use std::fs;
 use std::rt::Files;

@@ -1,7 +1,7 @@
 //! Files of a few pixels in both byte orders and at both depths, each fault, and every byte of the written form.
 
-use dpx_file::*;
 use byteorder::{BigEndian, ByteOrder, LittleEndian};
+use dpx_file::*;
 use std::alloc::{AllocError, Global};
 use std::test::*;
 

@@ -1,8 +1,8 @@
 //! Calls that take memory, each run once.
 
-use ctl_types::{Extent, OpenSizes, RowParam, Scalar, Shape, Size, SizeList, Value, row_of};
 use ctl_base::{Memory, ScalarKind};
 use ctl_stdlib::LibraryId;
+use ctl_types::{Extent, OpenSizes, RowParam, Scalar, Shape, Size, SizeList, Value, row_of};
 use fix_num::Fix;
 use sqlite_items::{Boxed, Items};
 use std::alloc::Global;

@@ -1,7 +1,7 @@
 //! The call that takes memory, run once.
 
-use ctl_program::Definitions;
 use ctl_base::Memory;
+use ctl_program::Definitions;
 use ctl_tree::Units;
 
 #[test]

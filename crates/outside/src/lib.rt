@@ -14,4 +14,3 @@ pub use console::{Console, MemConsole, OutConsole};
 pub use disk_box::DiskBox;
 pub use files::{Failed, FetchFault, Fetched, FileBox};
 pub use mem_box::MemBox;
-

@@ -1,8 +1,8 @@
 //! First texts with their outputs, and texts that are none.
 
-use first_text::{Colour, FirstText, one_tree, read_first_text};
 use ctl_base::Memory;
 use ctl_lexer::{LexFault, lex};
+use first_text::{Colour, FirstText, one_tree, read_first_text};
 use fix_num::Fix;
 use std::alloc::Global;
 

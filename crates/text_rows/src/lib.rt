@@ -1,4 +1,4 @@
-//! Texts: their tokens, first texts, and modules by name over files in memory. Tests alone.
+//! Texts: their tokens and trees, first texts, and modules by name over files in memory. Tests alone.
 #![tactic(auto)]
 
 #[cfg(test)]
@@ -7,3 +7,5 @@ mod first_texts;
 mod modules;
 #[cfg(test)]
 mod tokens;
+#[cfg(test)]
+mod trees;

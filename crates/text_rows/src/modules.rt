@@ -5,12 +5,12 @@ mod tables;
 ghost use Rattle.std.specs.Prelude.{◌<◌};
 
 use self::tables::{CYCLES, FAILING, FOLDERS, MANY, ORDER, REFUSED};
-use module_path::{
-    LoadFault, asks_for_the_first, at_least_one, at_most_one, each_once, load, read_fault_is_last,
-};
 use ctl_base::Memory;
 use ctl_base::limits::TEXT_BYTES;
 use ctl_tree::Units;
+use module_path::{
+    LoadFault, asks_for_the_first, at_least_one, at_most_one, each_once, load, read_fault_is_last,
+};
 use outside::MemBox;
 use std::alloc::Global;
 

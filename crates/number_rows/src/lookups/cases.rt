@@ -8,14 +8,14 @@ use super::tables::{
     THREE, THREE_EXCHANGED, THREES, TO_XYZ, TWO,
 };
 use super::{fills, gives, number, numbers};
+use ctl_base::limits::SCALARS;
+use fix_num::Fix;
+use std::process::Abort;
 use table_lookup::matrix::{
     add_entries, det_f33, det_f44, invert_f33, invert_f44, mult_f3_f33, mult_f3_f44, mult_f33_f33,
     mult_f44_f44, scale_entries, transpose_f33, transpose_f44,
 };
 use table_lookup::{interp_cubic1, interp1, lookup_cubic1, lookup1, lookup3, rgb_to_xyz};
-use ctl_base::limits::SCALARS;
-use fix_num::Fix;
-use std::process::Abort;
 
 fn looks_up(rt: &impl Abort, table: &[Fix], case: (i64, i64, i64, i64, i64))
     requires some { 0 < length table.now }

@@ -1,9 +1,9 @@
 //! Values worked by hand, in eighths.
 
 use super::{fills, gives, number, numbers};
+use fix_num::Fix;
 use table_lookup::matrix::mult_f3_f33;
 use table_lookup::{interp1, lookup_cubic1, lookup1, lookup3};
-use fix_num::Fix;
 
 const EIGHTH: i64 = 1 << 29;
 

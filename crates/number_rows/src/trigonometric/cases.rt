@@ -1,8 +1,8 @@
 //! The functions on the tables, and on worked values.
 
 use super::tables::{ANGLES, POINTS, SHARES};
-use fix_trig::{acos, asin, atan, atan2, cos, sin, tan};
 use fix_num::{Fix, saturated};
+use fix_trig::{acos, asin, atan, atan2, cos, sin, tan};
 use std::process::Abort;
 
 // Raws y and x and the raw of the angle of (x, y), worked by hand: at -1, at 1 and 1, and at the origin.

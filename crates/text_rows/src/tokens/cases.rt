@@ -3,8 +3,8 @@
 use super::tables::{
     ALONE, HALVES, POINTS, REFUSED, SIGNS, SIGNS_IN_A_ROW, TEXTS_AND_COMMENTS, WHOLES, WORDS,
 };
-use ctl_lexer::{LexFault, faults_have_no_tokens, lex, one_fault, one_list, tokens_or_fault};
 use ctl_base::limits::TEXT_BYTES;
+use ctl_lexer::{LexFault, faults_have_no_tokens, lex, one_fault, one_list, tokens_or_fault};
 use ctl_tree::{Keyword, LexKind, Sign, Token, TokenKind, TokenList};
 use std::alloc::Global;
 
