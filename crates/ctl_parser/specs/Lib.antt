@@ -1,4 +1,5 @@
 pub mod Faults
+pub mod Sources
 pub mod Heads
 pub mod PrivateFaults
 pub mod PrivateParts

@@ -17,7 +17,8 @@ use Rattle.fix_num.specs.declared.TheConstants.{FRACTION}
 use Rattle.grammar_machine.specs.Laws.{ModuleOrFault}
 use Rattle.module_path.specs.Laws.{IsTold}
 use Rattle.module_path.specs.ModuleFiles.{SourceText}
-use Rattle.module_path.specs.Reading.{ReadsAs, IsUnit, HasByteFault, HasTokenFault}
+use Rattle.ctl_parser.specs.Sources.{HasByteFault, HasTokenFault}
+use Rattle.module_path.specs.Reading.{ReadsAs, IsUnit}
 use Rattle.module_path.specs.declared.fault.LoadFault.{LoadFault}
 use Rattle.module_path.specs.declared.fault.LoadFault.TheVariants.{Cycle, TooMany, NotFound, ReadFault, TooLong, Lex, Syntax, Memory}
 
@@ -34,9 +35,9 @@ pub record Known : Type 0 where
 same_unit : Known → (text : SourceText) (u v : SourceUnit) → IsUnit text u → IsUnit text v → u ≡ v
 same_unit known text u v h k =
     let f : u.file ≡ v.file = h.same_file ∙ sym k.same_file in
-    let t : u.tokens ≡ v.tokens = known.one_list FRACTION text.bytes u.tokens v.tokens h.stand k.stand in
+    let t : u.tokens ≡ v.tokens = known.one_list FRACTION text.bytes u.tokens v.tokens h.source.stand k.source.stand in
     let P : List Token → Type 0 = λ ts. IsModule (lexemes_of text.bytes ts) (Some NESTING) v.«module» in
-    let m : u.«module» ≡ v.«module» = known.one_module _ _ _ _ _ h.spelt (subst P (sym t) k.spelt) in
+    let m : u.«module» ≡ v.«module» = known.one_module _ _ _ _ _ h.source.spelt (subst P (sym t) k.source.spelt) in
     λ i. record { file = f i; tokens = t i; «module» = m i }
 
 no_byte_fault : Known → (bytes : List ℕ) (tokens : List Token) (at line : ℕ) (kind : LexKind) → StandsFor FRACTION tokens bytes → HasByteFault bytes at line kind → ⊥
@@ -45,7 +46,7 @@ no_byte_fault known bytes tokens at line kind s f = known.faults_have_no_tokens 
 no_token_fault : Known → (text : SourceText) (u : SourceUnit) (place line : ℕ) (kind : SyntaxKind) → IsUnit text u → HasTokenFault text.bytes place line kind → ⊥
 no_token_fault known text u place line kind h k =
     let P : List Token → Type 0 = λ ts. IsModule (lexemes_of text.bytes ts) (Some NESTING) u.«module» in
-    known.faults_spell_none (lexemes_of text.bytes k.tokens) NESTING kind place (known.tokens_are_spelt text.bytes k.tokens k.stand) k.fault u.«module» (subst P (known.one_list FRACTION text.bytes u.tokens k.tokens h.stand k.stand) h.spelt)
+    known.faults_spell_none (lexemes_of text.bytes k.tokens) NESTING kind place (known.tokens_are_spelt text.bytes k.tokens k.stand) k.fault u.«module» (subst P (known.one_list FRACTION text.bytes u.tokens k.tokens h.source.stand k.stand) h.source.spelt)
 
 same_byte_fault : Known → (bytes file file' : List ℕ) (at line at' line' : ℕ) (kind kind' : LexKind) → file ≡ file' → HasByteFault bytes at line kind → HasByteFault bytes at' line' kind' → Lex file at line kind ≡ Lex file' at' line' kind'
 same_byte_fault known bytes file file' at line at' line' kind kind' e h k =
@@ -66,7 +67,7 @@ pub same_reading : Known → (text : SourceText) (u v : SourceUnit) → ReadsAs 
 same_reading known text u v h k = same_unit known text u v h k
 
 pub unit_or_fault : Known → (text : SourceText) (u : SourceUnit) (e : LoadFault) → ReadsAs text (Ok u) → ReadsAs text (Err e) → IsTold {A = SourceUnit} (Err e) → ⊥
-unit_or_fault known text u (Lex file at line kind) h k t = no_byte_fault known text.bytes u.tokens at line kind h.stand k.1
+unit_or_fault known text u (Lex file at line kind) h k t = no_byte_fault known text.bytes u.tokens at line kind h.source.stand k.1
 unit_or_fault known text u (Syntax file at line kind) h k t = no_token_fault known text u at line kind h k.1
 unit_or_fault known text u (Cycle f n) h k t = absurd k
 unit_or_fault known text u (TooMany f) h k t = absurd k
@@ -106,7 +107,7 @@ reads_some list form text = by (list FRACTION text.bytes)
   where
     of_tokens : (tokens : List Token) → StandsFor FRACTION tokens text.bytes → ((m : Module) × IsModule (lexemes_of text.bytes tokens) (Some NESTING) m) ⊎ ((kind : SyntaxKind) × (place : ℕ) × HasSyntaxFault (lexemes_of text.bytes tokens) NESTING kind place)
         → (r : Result SourceUnit LoadFault) × IsTold r × ReadsAs text r
-    of_tokens tokens s (inl (m, is)) = (Ok (record { file = text.file; tokens = tokens; «module» = m }), tt, record { same_file = refl; stand = s; spelt = is })
+    of_tokens tokens s (inl (m, is)) = (Ok (record { file = text.file; tokens = tokens; «module» = m }), tt, record { same_file = refl; source = record { stand = s; spelt = is } })
     of_tokens tokens s (inr (kind, place, f)) =
         (Err (Syntax text.file place (line_of_place text.bytes tokens place) kind), tt, (refl, record { tokens = tokens; stand = s; fault = f; in_line = refl }))
 

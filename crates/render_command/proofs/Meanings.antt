@@ -17,7 +17,8 @@ use Rattle.command_status.specs.declared.status.SourceFault.{SourceFault}
 use Rattle.command_status.specs.declared.status.SourceFault.TheVariants.{Lex, Syntax, TooLong}
 use Rattle.command_status.specs.declared.status.Status.{Status}
 use Rattle.command_status.specs.declared.status.Status.TheVariants.{Done, Exists, NotFound, Source, Image, ReadFault, WriteFault, Memory, Later}
-use Rattle.render_command.specs.Verdict.{TextMeans, HasByteFault, HasTokenFault, HasTree, HasSourceFault}
+use Rattle.ctl_parser.specs.Sources.{HasByteFault, HasTokenFault}
+use Rattle.render_command.specs.Verdict.{TextMeans, HasTree, HasSourceFault}
 
 -- what holds of tokens, modules and first texts
 pub record Laws : Type 0 where
@@ -38,37 +39,37 @@ one_spelt laws lexemes (Some x) (Some y) h k = ap Some (laws.one_tree lexemes x 
 same_tree : Laws → (text : List ℕ) (s t : Option FirstText) → HasTree text s → HasTree text t → s ≡ t
 same_tree laws text s t h k =
     let P : List Token → Type 0 = λ tokens. SpellsTree (lexemes_of text tokens) t in
-    one_spelt laws (lexemes_of text h.tokens) s t h.spells (subst P (laws.one_list FRACTION text k.tokens h.tokens k.stand h.stand) k.spells)
+    one_spelt laws (lexemes_of text h.tokens) s t h.spells (subst P (laws.one_list FRACTION text k.tokens h.tokens k.source.stand h.source.stand) k.spells)
 
 fault_no_tree : Laws → (text : List ℕ) (line : ℕ) (fault : SourceFault) (s : Option FirstText) → HasSourceFault text line fault → HasTree text s → ⊥
-fault_no_tree laws text line (Lex kind) s h k = laws.no_tokens FRACTION text h.at kind k.tokens h.fault k.stand
-fault_no_tree laws text line (Syntax kind) s h k =
+fault_no_tree laws text line (Lex kind) s (at, h) k = laws.no_tokens FRACTION text at kind k.tokens h.fault k.source.stand
+fault_no_tree laws text line (Syntax kind) s (place, h) k =
     let P : List Token → Type 0 = λ tokens. IsModule (lexemes_of text tokens) (Some NESTING) k.form in
-    laws.spell_none (lexemes_of text h.tokens) NESTING kind h.place (laws.are_spelt text h.tokens h.stand) h.fault k.form
-    (subst P (laws.one_list FRACTION text k.tokens h.tokens k.stand h.stand) k.spelt)
+    laws.spell_none (lexemes_of text h.tokens) NESTING kind place (laws.are_spelt text h.tokens h.stand) h.fault k.form
+    (subst P (laws.one_list FRACTION text k.tokens h.tokens k.source.stand h.stand) k.source.spelt)
 fault_no_tree laws text line TooLong s h k = h
 
-same_byte_fault : Laws → (text : List ℕ) (line other : ℕ) (kind kind' : LexKind) → HasByteFault text line kind → HasByteFault text other kind' → (line ≡ other) × (kind ≡ kind')
-same_byte_fault laws text line other kind kind' h k =
-    let same = laws.one_fault FRACTION text h.at k.at kind kind' h.fault k.fault in
+same_byte_fault : Laws → (text : List ℕ) (at elsewhere line other : ℕ) (kind kind' : LexKind) → HasByteFault text at line kind → HasByteFault text elsewhere other kind' → (line ≡ other) × (kind ≡ kind')
+same_byte_fault laws text at elsewhere line other kind kind' h k =
+    let same = laws.one_fault FRACTION text at elsewhere kind kind' h.fault k.fault in
     (h.in_line ∙ ap (line_at text) same.0 ∙ sym k.in_line, same.1)
 
-same_token_fault : Laws → (text : List ℕ) (line other : ℕ) (kind kind' : SyntaxKind) → HasTokenFault text line kind → HasTokenFault text other kind' → (line ≡ other) × (kind ≡ kind')
-same_token_fault laws text line other kind kind' h k =
+same_token_fault : Laws → (text : List ℕ) (place elsewhere line other : ℕ) (kind kind' : SyntaxKind) → HasTokenFault text place line kind → HasTokenFault text elsewhere other kind' → (line ≡ other) × (kind ≡ kind')
+same_token_fault laws text place elsewhere line other kind kind' h k =
     let e = laws.one_list FRACTION text h.tokens k.tokens h.stand k.stand in
-    let P : List Token → Type 0 = λ tokens. HasSyntaxFault (lexemes_of text tokens) NESTING kind' k.place in
-    let same = laws.one_syntax_fault (lexemes_of text h.tokens) NESTING kind kind' h.place k.place (laws.are_spelt text h.tokens h.stand) h.fault (subst P (sym e) k.fault) in
+    let P : List Token → Type 0 = λ tokens. HasSyntaxFault (lexemes_of text tokens) NESTING kind' elsewhere in
+    let same = laws.one_syntax_fault (lexemes_of text h.tokens) NESTING kind kind' place elsewhere (laws.are_spelt text h.tokens h.stand) h.fault (subst P (sym e) k.fault) in
     (h.in_line ∙ (λ i. line_of_place text (e i) (same.1 i)) ∙ sym k.in_line, same.0)
 
 abbrev refusal : List ℕ → ℕ → SourceFault → Result FirstText Status
 refusal file line fault = Err (Source file line fault)
 
 same_fault : Laws → (file text : List ℕ) (line other : ℕ) (fault fault' : SourceFault) → HasSourceFault text line fault → HasSourceFault text other fault' → refusal file line fault ≡ refusal file other fault'
-same_fault laws file text line other (Lex kind) (Lex kind') h k = let same = same_byte_fault laws text line other kind kind' h k in (λ i. refusal file (same.0 i) (Lex (same.1 i)))
-same_fault laws file text line other (Lex kind) (Syntax kind') h k = absurd (laws.no_tokens FRACTION text h.at kind k.tokens h.fault k.stand)
+same_fault laws file text line other (Lex kind) (Lex kind') (at, h) (elsewhere, k) = let same = same_byte_fault laws text at elsewhere line other kind kind' h k in (λ i. refusal file (same.0 i) (Lex (same.1 i)))
+same_fault laws file text line other (Lex kind) (Syntax kind') (at, h) (place, k) = absurd (laws.no_tokens FRACTION text at kind k.tokens h.fault k.stand)
 same_fault laws file text line other (Lex kind) TooLong h k = absurd k
-same_fault laws file text line other (Syntax kind) (Lex kind') h k = absurd (laws.no_tokens FRACTION text k.at kind' h.tokens k.fault h.stand)
-same_fault laws file text line other (Syntax kind) (Syntax kind') h k = let same = same_token_fault laws text line other kind kind' h k in (λ i. refusal file (same.0 i) (Syntax (same.1 i)))
+same_fault laws file text line other (Syntax kind) (Lex kind') (place, h) (at, k) = absurd (laws.no_tokens FRACTION text at kind' h.tokens k.fault h.stand)
+same_fault laws file text line other (Syntax kind) (Syntax kind') (place, h) (elsewhere, k) = let same = same_token_fault laws text place elsewhere line other kind kind' h k in (λ i. refusal file (same.0 i) (Syntax (same.1 i)))
 same_fault laws file text line other (Syntax kind) TooLong h k = absurd k
 same_fault laws file text line other TooLong fault' h k = absurd h
 

@@ -93,10 +93,9 @@ unfolding TextMeans
 module_means file text tokens form stand spelt none =
     none (Err Later) (record {
       tokens = tokens;
-      stand = stand;
       form = form;
-      spelt = spelt;
-      spells = λ tree h. none (Ok tree) (record { tokens = tokens; stand = stand; form = form; spelt = spelt; spells = h });
+      source = record { stand = stand; spelt = spelt };
+      spells = λ tree h. none (Ok tree) (record { tokens = tokens; form = form; source = record { stand = stand; spelt = spelt }; spells = h });
     })
 
 fault_means : (file text : List ℕ) (line : ℕ) (fault : SourceFault) → HasSourceFault text line fault → ((r : Result FirstText Status) → TextMeans file text r → ⊥) → ⊥
@@ -107,9 +106,9 @@ some_meaning : SomeLaws → (file text : List ℕ) → ((r : Result FirstText St
 some_meaning laws file text none = elim (laws.tokens_or_fault FRACTION text) [
   | inl found ↦ elim (laws.module_or_fault (lexemes_of text found.0) NESTING) [
     | inl spelt ↦ module_means file text found.0 spelt.0 found.1 spelt.1 none
-    | inr fault ↦ fault_means file text (line_of_place text found.0 fault.1) (Syntax fault.0) (record { tokens = found.0; stand = found.1; place = fault.1; fault = fault.2; in_line = refl }) none
+    | inr fault ↦ fault_means file text (line_of_place text found.0 fault.1) (Syntax fault.0) (fault.1, record { tokens = found.0; stand = found.1; fault = fault.2; in_line = refl }) none
   ]
-  | inr fault ↦ fault_means file text (line_at text fault.0) (Lex fault.1) (record { at = fault.0; fault = fault.2; in_line = refl }) none
+  | inr fault ↦ fault_means file text (line_at text fault.0) (Lex fault.1) (fault.0, record { fault = fault.2; in_line = refl }) none
 ]
 
 some_of_loaded : SomeLaws → (held : Held) (command : Command) (text : Result (List ℕ) Status) → loaded held command ≡ text → ((v : Result Plan Status) → JudgesCommand held command v → ⊥) → ⊥

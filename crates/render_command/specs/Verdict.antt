@@ -2,17 +2,11 @@
 use Rattle.std.specs.Prelude.{◌≡◌, ℕ, List, length, Option, Some, None, Result, Ok, Err, IfOk, nat_le, if◌then◌else◌}
 use Rattle.std.specs.FinMap as files
 use Rattle.ctl_base.specs.Answers.{◌>>=◌, ◌>>◌}
-use Rattle.ctl_base.specs.declared.limits.TheConstants.{TEXT_BYTES, IMAGE_BYTES, NESTING}
+use Rattle.ctl_base.specs.declared.limits.TheConstants.{TEXT_BYTES, IMAGE_BYTES}
 use Rattle.ctl_tree.specs.declared.definition.Module.{Module}
-use Rattle.ctl_tree.specs.declared.fault.LexKind.{LexKind}
-use Rattle.ctl_tree.specs.declared.fault.SyntaxKind.{SyntaxKind}
 use Rattle.ctl_tree.specs.declared.token.Token.{Token}
-use Rattle.ctl_tree.specs.Lines.{line_at, line_of_place}
-use Rattle.ctl_tree.specs.Tokens.{StandsFor, HasFault}
 use Rattle.ctl_tree.specs.Lexemes.{lexemes_of}
-use Rattle.ctl_tree.specs.Modules.{IsModule}
-use Rattle.ctl_tree.specs.Beginnings.{HasSyntaxFault}
-use Rattle.fix_num.specs.declared.TheConstants.{FRACTION}
+use Rattle.ctl_parser.specs.Sources.{IsSource, HasByteFault, HasTokenFault}
 use Rattle.outside.specs.Files.{Held, holds}
 use Rattle.dpx_file.specs.Plain.{PlainImage}
 use Rattle.dpx_file.specs.Reading.{dpx_reading}
@@ -53,32 +47,17 @@ abbrev pub image_of : Option (List ℕ) → Result PlainImage Status
 image_of None = Err (Image Absent)
 image_of (Some bytes) = if nat_le (length bytes) IMAGE_BYTES then image_in (dpx_reading bytes) else Err (Image TooLong)
 
--- The text has a fault of its bytes in this line: no tokens stand for it.
-pub record HasByteFault (text : List ℕ) (line : ℕ) (kind : LexKind) : Type 0 where
-  pub at : ℕ
-  pub fault : HasFault FRACTION text at kind
-  pub in_line : line ≡ line_at text at
-
--- Tokens stand for the text, and they have a fault in this line: they spell no module of a nesting that is allowed.
-pub record HasTokenFault (text : List ℕ) (line : ℕ) (kind : SyntaxKind) : Type 0 where
-  pub tokens : List Token
-  pub stand : StandsFor FRACTION tokens text
-  pub place : ℕ
-  pub fault : HasSyntaxFault (lexemes_of text tokens) NESTING kind place
-  pub in_line : line ≡ line_of_place text tokens place
-
--- Tokens stand for the text, they spell a module of a nesting that is allowed, and this tree or no tree.
+-- the text is a module, and its tokens spell this tree or no tree
 pub record HasTree (text : List ℕ) (tree : Option FirstText) : Type 0 where
   pub tokens : List Token
-  pub stand : StandsFor FRACTION tokens text
   pub form : Module
-  pub spelt : IsModule (lexemes_of text tokens) (Some NESTING) form
+  pub source : IsSource text tokens form
   pub spells : SpellsTree (lexemes_of text tokens) tree
 
 -- the text has this fault in this line
 abbrev pub HasSourceFault : List ℕ → ℕ → SourceFault → Type 0
-HasSourceFault text line (Lex kind) = HasByteFault text line kind
-HasSourceFault text line (Syntax kind) = HasTokenFault text line kind
+HasSourceFault text line (Lex kind) = (at : ℕ) × HasByteFault text at line kind
+HasSourceFault text line (Syntax kind) = (place : ℕ) × HasTokenFault text place line kind
 HasSourceFault text line TextTooLong = ⊥
 
 -- What the text of a file means: a tree, or its fault, or Later where it is a module and no first text.
