@@ -210,7 +210,7 @@ def main():
     print("//! Cases at the edges, computed with exact fractions and integers.")
     print("//!")
     print("//! Printed by tools/fix_num_tables.py.\n")
-    print("use crate::WholeOp;\n")
+    print("use fix_num::WholeOp;\n")
     print("pub(super) static OPERATIONS: [WholeOp; 10] = [")
     for op in OPS:
         print(f"    WholeOp::{op},")
