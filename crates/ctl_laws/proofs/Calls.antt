@@ -12,6 +12,8 @@ use Rattle.ctl_types.specs.declared.shape.Base.TheVariants.{Scalar}
 use Rattle.ctl_types.specs.declared.shape.Shape.{Shape}
 use Rattle.ctl_types.specs.declared.value.Value.{Value}
 use Rattle.ctl_types.specs.declared.expression.Callee.{Callee}
+use Rattle.ctl_types.specs.declared.expression.Conversion.{Conversion}
+use Rattle.ctl_types.specs.declared.expression.Conversion.TheVariants.{Same, Between}
 use Rattle.ctl_types.specs.declared.expression.TypedExpr.{TypedExpr}
 use Rattle.ctl_types.specs.declared.expression.Operand.{Operand}
 use Rattle.ctl_types.specs.declared.expression.TypedCall.{TypedCall}
@@ -21,16 +23,23 @@ use Rattle.ctl_types.specs.declared.expression.Argument.TheOpen.{TypedExpr-F, Ty
 use Rattle.ctl_types.specs.Scalars.{kind_of, scalar, operate_alone}
 use Rattle.ctl_types.specs.Shapes.{Whole, whole, through, size_in}
 use Rattle.ctl_types.specs.Values.{Env, one, var_of, fits, argument_fits, arguments_fit}
-use Rattle.ctl_types.specs.Typing.{Typed, is_scalar, node_stands, Formal, Signature, Scene, signature_in, variable_type, constant_type, Variables, works_alone, steps_type, links_type, all_scalars, first_is, sizes_stand, Passing, In, Out, Absent, default_fits, argument_suits, arguments_suit, call_type, type_fold, type_form, type_call, expr_type, operand_type, call_form_type, place_type}
-use Rattle.ctl_types.specs.Run.{Fault, Trapped, Wrong, Pixel, Run, give, held, go_on, word, give_scalar, evaluated, listed, Passed, Target, ArgumentRun, given_or, given, put_back, brought, Came, Called, came_to, called, callee_of, linked, decided, decider, steps_run, call_step, expr_step, run_fold, run_expr, run_operand, run_call, run_place}
+use Rattle.ctl_types.specs.Typing.{Typed, is_scalar, node_stands, Formal, Signature, Scene, signature_in, variable_type, constant_type, Variables, works_alone, is_kind_alone, unary_type, OperandType, taken, as_converted, is_same, may_precede, steps_type, links_type, all_scalars, first_is, sizes_stand, Passing, In, Out, Absent, default_fits, argument_suits, arguments_suit, call_type, type_fold, type_form, type_call, expr_type, operand_type, call_form_type, place_type}
+use Rattle.ctl_types.specs.Run.{Fault, Trapped, Wrong, Pixel, Run, give, held, go_on, word, give_scalar, sized, evaluated, listed, Passed, Target, ArgumentRun, given_or, given, put_back, brought, Came, Called, came_to, called, callee_of, linked, decided, decider, steps_run, call_step, expr_step, run_fold, run_expr, run_operand, run_call, run_place}
 use Rattle.ctl_types.specs.Pairs.{Pair, KeepsExprs, expr_pair, operand_pair, call_pair, place_pair}
 use Rattle.ctl_laws.specs.Sound.{Of}
 use Rattle.ctl_laws.proofs.Values.{both, and_true, shape, one_fits, scalars_one}
 use Rattle.ctl_laws.proofs.Ranges.{bool_within, alone_gives}
-use Rattle.ctl_laws.proofs.Runs.{Good, good_then, good_more, good_held, good_word, good_chosen}
-use Rattle.ctl_laws.proofs.Shapes.{has_full, sizes_same, stated_whole, size_range, sizes_range, whole_through, type_some, stand_at}
+use Rattle.ctl_laws.proofs.Runs.{Good, good_then, good_more, good_held, good_word, good_chosen, good_sized}
+use Rattle.ctl_laws.proofs.Shapes.{has_full, sizes_same, stated_whole, size_fits, size_range, sizes_range, whole_through, type_some, stand_at}
 use Rattle.ctl_laws.proofs.Around.{formal_shape, formal_shapes, Begins, DefaultWell, DefaultsWell, constant_at, CameWell, Serves, Around, setting, Sound, callee_at}
-use Rattle.ctl_laws.proofs.Places.{On, Be, whole_type, Right, RightStep, RightLink, RightPlace, RightArgument, PassedAs, typed_expr, ran_expr, typed_call, ran_call, fits_as, of_as, scalar_of, step_right, step_types, step_runs, steps_right, steps_well, place_right, operand_right, link_right, argument_right}
+use Rattle.ctl_laws.proofs.Places.{On, Be, whole_type, Right, RightOperand, RightStep, RightLink, RightPlace, RightArgument, PassedAs, typed_expr, ran_expr, typed_call, ran_call, fits_as, of_as, scalar_of, step_right, step_types, step_runs, steps_right, steps_well, place_right, operand_right, link_right, argument_right}
+
+-- what is not converted is taken as it is
+same_taken : (o : OperandType) → is_same o.conversion ≡ true → taken o ≡ o.value
+same_taken o e = by o.conversion e where
+  by : (c : Conversion) → is_same c ≡ true → as_converted c o.value ≡ o.value
+  by Same e = refl
+  by (Between a b) e = absurd (cc)
 
 map_stated : (opens ns : List ℕ) → map (size_in opens) (map Stated ns) ≡ ns
 map_stated opens [] = refl
@@ -107,11 +116,13 @@ module _ {C : Type 0} {pay : ℕ → C → C} (x : Around C pay) (h : Sound x) (
   arguments_right es [] (g ∷ formals) ds p f w st = absurd (cc)
   arguments_right es (e ∷ args) [] ds p f w st = absurd (cc)
   arguments_right es (e ∷ args) (g ∷ formals) [] p f w st =
-      let b = both (argument_suits es g e.0) _ w in
-      good_then (λ q r. On x h scope r × Sent (formal_shape (map (size_in x.opens) es) g) None e.1.target q) _ (e.1.run p) _ (one_right es g None e.0 e.1 p e.2 (no_default g f.0) b.0 st) (λ q r k. good_then (λ qs q. On x h scope q × AllSent (map (size_in x.opens) es) formals [] (targets_of args) qs) _ (listed C pay (runs_of args) r) _ (arguments_right es args formals [] r f.1 b.1 k.0) (λ qs r m. (m.0, (k.1, m.1))))
+      let c = both (argument_suits es g e.0 && may_precede e.0 _) _ w in
+      let b = both (argument_suits es g e.0) _ c.0 in
+      good_then (λ q r. On x h scope r × Sent (formal_shape (map (size_in x.opens) es) g) None e.1.target q) _ (e.1.run p) _ (one_right es g None e.0 e.1 p e.2 (no_default g f.0) b.0 st) (λ q r k. good_then (λ qs q. On x h scope q × AllSent (map (size_in x.opens) es) formals [] (targets_of args) qs) _ (listed C pay (runs_of args) r) _ (arguments_right es args formals [] r f.1 c.1 k.0) (λ qs r m. (m.0, (k.1, m.1))))
   arguments_right es (e ∷ args) (g ∷ formals) (d ∷ ds) p f w st =
-      let b = both (argument_suits es g e.0) _ w in
-      good_then (λ q r. On x h scope r × Sent (formal_shape (map (size_in x.opens) es) g) d e.1.target q) _ (e.1.run p) _ (one_right es g d e.0 e.1 p e.2 f.0 b.0 st) (λ q r k. good_then (λ qs q. On x h scope q × AllSent (map (size_in x.opens) es) formals ds (targets_of args) qs) _ (listed C pay (runs_of args) r) _ (arguments_right es args formals ds r f.1 b.1 k.0) (λ qs r m. (m.0, (k.1, m.1))))
+      let c = both (argument_suits es g e.0 && may_precede e.0 _) _ w in
+      let b = both (argument_suits es g e.0) _ c.0 in
+      good_then (λ q r. On x h scope r × Sent (formal_shape (map (size_in x.opens) es) g) d e.1.target q) _ (e.1.run p) _ (one_right es g d e.0 e.1 p e.2 f.0 b.0 st) (λ q r k. good_then (λ qs q. On x h scope q × AllSent (map (size_in x.opens) es) formals ds (targets_of args) qs) _ (listed C pay (runs_of args) r) _ (arguments_right es args formals ds r f.1 c.1 k.0) (λ qs r m. (m.0, (k.1, m.1))))
 
   one_fit : (opens : List ℕ) (g : Formal) (formals : List Formal) (o : Option Value) (frame : Env) (v : Value) → o ≡ Some v → Of x.scene.structs (formal_shape opens g) v → arguments_fit x.scene.structs opens (formal_shapes formals) frame ≡ true → arguments_fit x.scene.structs opens (formal_shapes (g ∷ formals)) (o ∷ frame) ≡ true
   one_fit opens g formals o frame v e f rest =
@@ -160,7 +171,7 @@ module _ {C : Type 0} {pay : ℕ → C → C} (x : Around C pay) (h : Sound x) (
       let r = callee_at x h c node g e in
       good_then (λ qs q. On x h scope q × AllSent (map (size_in x.opens) es) g.formals r.0.defaults (targets_of args) qs) _ (listed C pay (runs_of args) p) _ (arguments_right es args g.formals r.0.defaults p r.2.defaults cw.suit st) (λ qs q k. good_held _ (callee_of C pay (setting x) c node) (called C pay (map (size_in x.opens) es) (targets_of args) qs) q r.0 r.1 (called_right es g r.0 (targets_of args) qs q r.2 cw.count cw.stand k.1 k.0))
 
-  pub call_right : (y : TypedCall-F (Pair (RightArgument x h scope)) (Pair (Right x h scope)) (Pair (RightStep x h scope)) (Pair (Right x h scope)) (Pair (Right x h scope)) (Pair (RightLink x h scope)) (Pair (RightPlace x h scope))) → Right x h scope (type_call x.scene scope (typed_call x h scope y)) (call_step C pay (setting x) (ran_call x h scope y))
+  pub call_right : (y : TypedCall-F (Pair (RightArgument x h scope)) (Pair (Right x h scope)) (Pair (RightStep x h scope)) (Pair (RightOperand x h scope)) (Pair (Right x h scope)) (Pair (RightLink x h scope)) (Pair (RightPlace x h scope))) → Right x h scope (type_call x.scene scope (typed_call x h scope y)) (call_step C pay (setting x) (ran_call x h scope y))
   call_right y p st w = evaluated_right (whole_type x h scope (type_call x.scene scope (typed_call x h scope y))) (λ p. go_on C pay (listed C pay (runs_of y.arguments) p) (λ qs. held C pay (callee_of C pay (setting x) y.callee y.node) (called C pay (map (size_in x.opens) y.sizes) (targets_of y.arguments) qs))) p (call_cases y.sizes y.arguments y.callee y.node (signature_in x.scene y.callee) p refl (both (node_stands x.scene y.node) _ w).1 st)
 
   -- ---- expressions
@@ -181,24 +192,25 @@ module _ {C : Type 0} {pay : ℕ → C → C} (x : Around C pay) (h : Sound x) (
   truth_of : (b : Bool) → Of x.scene.structs (shape [] (Some (Scalar kind.Bool))) (one (scalar_form.Bool b))
   truth_of b = (one_fits x.scene.structs (scalar_form.Bool b) kind.Bool refl (bool_within b), let n = scalars_one (scalar_form.Bool b) in omega arith)
 
-  decided_right : (t : Bool) (os : List (Pair (Right x h scope))) (p : Pixel C pay) → all_scalars kind.Bool (map (λ (e : Pair (Right x h scope)). e.0) os) ≡ true → On x h scope p → Good (Be x h scope (shape [] (Some (Scalar kind.Bool)))) (decided C pay t (map (λ (e : Pair (Right x h scope)). e.1) os) p)
+  decided_right : (t : Bool) (os : List (Pair (RightOperand x h scope))) (p : Pixel C pay) → all_scalars kind.Bool (map taken (map (λ (e : Pair (RightOperand x h scope)). e.0) os)) ≡ true → On x h scope p → Good (Be x h scope (shape [] (Some (Scalar kind.Bool)))) (decided C pay t (map (λ (e : Pair (RightOperand x h scope)). e.1) os) p)
   decided_right t [] p w st = (st, truth_of (not t))
   decided_right true (o ∷ os) p w st =
-      let b = both (is_scalar kind.Bool o.0) _ w in
-      let k = has_full x.opens o.0 [] (Some (Scalar kind.Bool)) b.0 in
-      good_then (Be x h scope (whole_type x h scope o.0)) _ (o.1 p) _ (o.2 p st k.0) (λ v q g. good_chosen x.scene.structs _ (give C pay (one (scalar_form.Bool true))) (decided C pay true (map (λ (e : Pair (Right x h scope)). e.1) os)) v q (fits_as x h scope _ _ v k.1 g.1.0) (g.0, truth_of true) (decided_right true os q b.1 g.0))
+      let b = both (is_scalar kind.Bool (taken o.0)) _ w in
+      let k = has_full x.opens (taken o.0) [] (Some (Scalar kind.Bool)) b.0 in
+      good_then (Be x h scope (whole_type x h scope (taken o.0))) _ (o.1 p) _ (o.2 p st k.0) (λ v q g. good_chosen x.scene.structs _ (give C pay (one (scalar_form.Bool true))) (decided C pay true (map (λ (e : Pair (RightOperand x h scope)). e.1) os)) v q (fits_as x h scope _ _ v k.1 g.1.0) (g.0, truth_of true) (decided_right true os q b.1 g.0))
   decided_right false (o ∷ os) p w st =
-      let b = both (is_scalar kind.Bool o.0) _ w in
-      let k = has_full x.opens o.0 [] (Some (Scalar kind.Bool)) b.0 in
-      good_then (Be x h scope (whole_type x h scope o.0)) _ (o.1 p) _ (o.2 p st k.0) (λ v q g. good_chosen x.scene.structs _ (decided C pay false (map (λ (e : Pair (Right x h scope)). e.1) os)) (give C pay (one (scalar_form.Bool false))) v q (fits_as x h scope _ _ v k.1 g.1.0) (decided_right false os q b.1 g.0) (g.0, truth_of false))
+      let b = both (is_scalar kind.Bool (taken o.0)) _ w in
+      let k = has_full x.opens (taken o.0) [] (Some (Scalar kind.Bool)) b.0 in
+      good_then (Be x h scope (whole_type x h scope (taken o.0))) _ (o.1 p) _ (o.2 p st k.0) (λ v q g. good_chosen x.scene.structs _ (decided C pay false (map (λ (e : Pair (RightOperand x h scope)). e.1) os)) (give C pay (one (scalar_form.Bool false))) v q (fits_as x h scope _ _ v k.1 g.1.0) (decided_right false os q b.1 g.0) (g.0, truth_of false))
 
-  alone_right : (op : UnaryOperator) (k : ScalarKind) (o : Pair (Right x h scope)) (p : Pixel C pay) → (works_alone op k && is_scalar k o.0) ≡ true → On x h scope p → Good (Be x h scope (shape [] (Some (Scalar k)))) (go_on C pay (o.1 p) (word C pay k (λ a. give_scalar C pay k (operate_alone FRACTION op k a))))
+  alone_right : (op : UnaryOperator) (k : ScalarKind) (o : Pair (RightOperand x h scope)) (p : Pixel C pay) → (unary_type op k o.0).well ≡ true → On x h scope p → Good (Be x h scope (shape [] (Some (Scalar k)))) (go_on C pay (o.1 p) (word C pay k (λ a. give_scalar C pay k (operate_alone FRACTION op k a))))
   alone_right op k o p w st =
-      let b = both (works_alone op k) _ w in
-      let f = has_full x.opens o.0 [] (Some (Scalar k)) b.1 in
-      good_then (Be x h scope (whole_type x h scope o.0)) _ (o.1 p) _ (o.2 p st f.0) (λ v q g. good_word x.scene.structs _ k _ v q (fits_as x h scope _ _ v f.1 g.1.0) (λ a r.
-      let z = alone_gives h.numbers op k a b.0 r in
-      good_held _ (operate_alone FRACTION op k a) (λ z. give C pay (one (scalar k z))) q z.0 z.1 (g.0, scalar_of x h scope k z.0 z.2)))
+      let a = both (works_alone op k && is_kind_alone op k o.0.value.base) _ w in
+      let b = both (works_alone op k) _ a.0 in
+      let f = has_full x.opens (taken o.0) [] (Some (Scalar k)) a.1 in
+      good_then (Be x h scope (whole_type x h scope (taken o.0))) _ (o.1 p) _ (o.2 p st f.0) (λ v q g. good_word x.scene.structs _ k _ v q (fits_as x h scope _ _ v f.1 g.1.0) (λ n r.
+      let z = alone_gives h.numbers op k n b.0 r in
+      good_held _ (operate_alone FRACTION op k n) (λ z. give C pay (one (scalar k z))) q z.0 z.1 (g.0, scalar_of x h scope k z.0 z.2)))
 
   constant_right : (n : ℕ) (o : Option Shape) (p : Pixel C pay) → slice_get x.scene.constants n ≡ o → (constant_type o).well ≡ true → On x h scope p → Good (Be x h scope (whole_type x h scope (constant_type o))) (held C pay (slice_get x.constants n) (give C pay) p)
   constant_right n None p e w st = absurd (cc)
@@ -206,7 +218,7 @@ module _ {C : Type 0} {pay : ℕ → C → C} (x : Around C pay) (h : Sound x) (
       let v = constant_at x.scene.structs x.scene.constants x.constants n m h.constants e in
       good_held _ (slice_get x.constants n) (give C pay) p v.0 v.1 (st, of_as x h scope _ _ v.0 (sym (stated_whole x.opens m v.2)) v.3)
 
-  pub expr_right : (y : TypedExpr-F (Pair (RightArgument x h scope)) (Pair (Right x h scope)) (Pair (RightStep x h scope)) (Pair (Right x h scope)) (Pair (Right x h scope)) (Pair (RightLink x h scope)) (Pair (RightPlace x h scope))) → Right x h scope (type_form x.scene scope (typed_expr x h scope y)) (expr_step C pay (setting x) (ran_expr x h scope y))
+  pub expr_right : (y : TypedExpr-F (Pair (RightArgument x h scope)) (Pair (Right x h scope)) (Pair (RightStep x h scope)) (Pair (RightOperand x h scope)) (Pair (Right x h scope)) (Pair (RightLink x h scope)) (Pair (RightPlace x h scope))) → Right x h scope (type_form x.scene scope (typed_expr x h scope y)) (expr_step C pay (setting x) (ran_expr x h scope y))
   expr_right (form.Literal s) p st w = (st, (one_fits x.scene.structs s (kind_of s) refl w, let n = scalars_one s in omega arith))
   expr_right (form.Constant n) p st w = evaluated_right (whole_type x h scope (constant_type (slice_get x.scene.constants n))) (held C pay (slice_get x.constants n) (give C pay)) p (constant_right n (slice_get x.scene.constants n) p refl w st)
   expr_right (form.Variable n) p st w =
@@ -215,21 +227,25 @@ module _ {C : Type 0} {pay : ℕ → C → C} (x : Around C pay) (h : Sound x) (
       evaluated_right (whole_type x h scope (variable_type (slice_get scope n))) (λ p. held C pay (var_of p.env n) (give C pay) p) p (good_held (Be x h scope (whole_type x h scope (variable_type (slice_get scope n)))) (var_of p.env n) (give C pay) p u.0 u.1 (st, of_as x h scope _ _ u.0 (ap (λ o. whole_type x h scope (variable_type o)) (sym v.1)) u.2))
   expr_right (form.Unary op k o) p st w = evaluated_right (shape [] (Some (Scalar k))) (λ p. go_on C pay (o.1 p) (word C pay k (λ a. give_scalar C pay k (operate_alone FRACTION op k a)))) p (alone_right op k o p w st)
   expr_right (form.Chain o links) p st w =
-      let y = whole_type x h scope (links_type (map (λ (e : Pair (RightLink x h scope)). e.0) links) o.0) in
+      let b = both (is_same o.0.conversion && nat_lt 0 (length (map (λ (e : Pair (RightLink x h scope)). e.0) links))) _ w in
+      let e = same_taken o.0 (both (is_same o.0.conversion) _ b.0).0 in
+      let y = whole_type x h scope (links_type (map (λ (e : Pair (RightLink x h scope)). e.0) links) o.0.value) in
       let rest = linked C pay (map (λ (e : Pair (RightLink x h scope)). e.1) links) in
-      evaluated_right y (λ p. go_on C pay (o.1 p) rest) p (good_then (Be x h scope (whole_type x h scope o.0)) (Be x h scope y) (o.1 p) rest (o.2 p st (first_well links o.0 w)) (λ v q g. linked_right links o.0 v q w g.1 g.0))
-  expr_right (form.Logic l os) p st w = evaluated_right (shape [] (Some (Scalar kind.Bool))) (decided C pay (decider l) (map (λ (e : Pair (Right x h scope)). e.1) os)) p (decided_right (decider l) os p w st)
-  expr_right (form.Path e steps) p st w =
+      evaluated_right y (λ p. go_on C pay (o.1 p) rest) p (good_then (Be x h scope (whole_type x h scope (taken o.0))) (Be x h scope y) (o.1 p) rest (o.2 p st (subst (λ (t : Typed). t.well ≡ true) (sym e) (first_well links o.0.value b.1))) (λ v q g. linked_right links o.0.value v q b.1 (of_as x h scope _ _ v (ap (λ t. whole_type x h scope t) e) g.1) g.0))
+  expr_right (form.Logic l os) p st w = evaluated_right (shape [] (Some (Scalar kind.Bool))) (decided C pay (decider l) (map (λ (e : Pair (RightOperand x h scope)). e.1) os)) p (decided_right (decider l) os p (both (nat_lt 1 (length (map taken (map (λ (e : Pair (RightOperand x h scope)). e.0) os)))) _ w).1 st)
+  expr_right (form.Path e steps) p st u =
+      let w = (both (nat_lt 0 (length (step_types x h scope steps))) _ u).1 in
       let y = whole_type x h scope (steps_type (step_types x h scope steps) e.0) in
       let rest = steps_run C pay (step_runs x h scope steps) in
       (good_then (Be x h scope (whole_type x h scope e.0)) (Be x h scope y) (e.1 p) rest (e.2 p st (steps_well x h scope steps e.0 w)) (λ v q g. steps_right x h scope steps e.0 v q g.0 w g.1))
   expr_right (form.Size e size) p st w =
       let b = both (e.0.well && first_is size e.0.sizes) _ w in
       let c = both e.0.well _ b.0 in
-      evaluated_right (shape [] (Some (Scalar kind.Int))) (λ p. go_on C pay (e.1 p) (λ v. give C pay (one (scalar_form.Int (pos (size_in x.opens size)))))) p (good_then (Be x h scope (whole_type x h scope e.0)) (Be x h scope (shape [] (Some (Scalar kind.Int)))) (e.1 p) _ (e.2 p st c.0) (λ v q g. (g.0, scalar_of x h scope kind.Int (pos (size_in x.opens size)) (size_range x.scene x.opens size h.opens h.sizes b.1))))
+      let l = (size_fits x.scene x.opens size h.opens h.sizes b.1).1 in
+      evaluated_right (shape [] (Some (Scalar kind.Int))) (λ p. go_on C pay (e.1 p) (λ v. sized C pay (size_in x.opens size))) p (good_then (Be x h scope (whole_type x h scope e.0)) (Be x h scope (shape [] (Some (Scalar kind.Int)))) (e.1 p) _ (e.2 p st c.0) (λ v q g. good_sized (Be x h scope (shape [] (Some (Scalar kind.Int)))) (size_in x.opens size) q (omega arith) (g.0, scalar_of x h scope kind.Int (pos (size_in x.opens size)) (size_range x.scene x.opens size h.opens h.sizes b.1))))
   expr_right (form.Call c) p st w = c.2 p st w
 
-  all_right : KeepsExprs (RightArgument x h scope) (Right x h scope) (RightStep x h scope) (Right x h scope) (Right x h scope) (RightLink x h scope) (RightPlace x h scope) (type_fold x.scene scope) (run_fold C pay (setting x))
+  all_right : KeepsExprs (RightArgument x h scope) (Right x h scope) (RightStep x h scope) (RightOperand x h scope) (Right x h scope) (RightLink x h scope) (RightPlace x h scope) (type_fold x.scene scope) (run_fold C pay (setting x))
   all_right = record {
     argument = argument_right x h scope;
     expr = expr_right;

@@ -1,7 +1,7 @@
 -- The laws of the count and the turns.
 use Rattle.std.proofs.Common.{◌≡◌, ℕ, ◌+◌, Result, Ok, Err, inl, inr, refl, sym, ap, ◌∙◌, arith, slice_get}
 use Rattle.ctl_types.specs.Run.{Fault, Trapped, Wrong, Ended, call_run}
-use Rattle.ctl_laws.specs.Sound.{uncounted, counted}
+use Rattle.ctl_types.specs.Cost.{uncounted, counted}
 use Rattle.ctl_laws.specs.Turns.{forgotten, CountChangesNothing, NoMoreTurns, TurnsNeverRise, EndsAlike, MoreTurnsEndAlike}
 use Rattle.ctl_laws.proofs.Twins.{AlikeEnded, call_alike}
 

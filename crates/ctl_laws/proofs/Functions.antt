@@ -3,6 +3,7 @@ use Rattle.std.proofs.Common.{◌≡◌, ℕ, zero, suc, ◌+◌, List, [], ◌�
 use Rattle.ctl_base.specs.declared.limits.TheConstants.{SCALARS}
 use Rattle.ctl_types.specs.declared.shape.Shape.{Shape}
 use Rattle.ctl_types.specs.declared.shape.LocalShape.{LocalShape}
+use Rattle.ctl_types.specs.declared.statement.TypedStatement.{out-TypedStatement}
 use Rattle.ctl_types.specs.declared.program.Struct.{Struct as StructForm}
 use Rattle.ctl_types.specs.declared.program.Parameter.{Parameter}
 use Rattle.ctl_types.specs.declared.program.Function.{Function}
@@ -10,7 +11,7 @@ use Rattle.ctl_types.specs.declared.value.Value.{Value}
 use Rattle.ctl_types.specs.Shapes.{Whole, whole, local, locals, extents, base_of, open_count, open_sizes_of, struct_counts}
 use Rattle.ctl_types.specs.Values.{Env, nothing, fits, scalars, sizes_fit, sizes_at, argument_fits, arguments_fit, takes}
 use Rattle.ctl_types.specs.Typing.{Typed, are_stated, shape_stands, node_stands, Variables, Scene, Formal, Signature, default_sizes, formals_from, signature_of, result_type}
-use Rattle.ctl_types.specs.Scoping.{is_void, result_stands, default_stands, parameters_stand, parameter_variables, first_scope, inside, body_scope, function_signature, function_stands, with_functions, functions_stand, signatures_after}
+use Rattle.ctl_types.specs.Scoping.{is_void, result_stands, default_stands, parameters_stand, parameter_variables, first_scope, inside, is_block, body_scope, function_signature, function_stands, with_functions, functions_stand, signatures_after}
 use Rattle.ctl_types.specs.Run.{Fault, Trapped, Wrong, Pixel, Outcome, End, Normal, Left, Came, Called, run_statement, fallen, end_of, ended, whole_result, parameter_shapes, called_of, meanings}
 use Rattle.ctl_laws.specs.Sound.{Of, Stands}
 use Rattle.ctl_laws.proofs.Values.{both, and_true, shape, nothing_fits, scalars_nothing}
@@ -118,8 +119,8 @@ module _ {C : Type 0} {pay : ℕ → C → C} (s : Scene) (constants : List Valu
       let b = both ((node_stands s f.node && parameters_stand (inside s f) (signature_of 0 f).formals f.parameters) && result_stands s f.result) _ w in
       let c = both (node_stands s f.node && parameters_stand (inside s f) (signature_of 0 f).formals f.parameters) _ b.0 in
       let d = both (node_stands s f.node) _ c.0 in
-      let e = both ((body_scope s f).well && (body_scope s f).after.next == length f.parameters + f.variables) _ b.1 in
-      let well = (both (body_scope s f).well _ e.0).0 in
+      let e = both (((body_scope s f).well && is_block (out-TypedStatement f.body)) && length (body_scope s f).after.used == f.variables) _ b.1 in
+      let well = (both (body_scope s f).well _ (both ((body_scope s f).well && is_block (out-TypedStatement f.body)) _ e.0).0).0 in
       record {
         defaults = defaults_well (inside s f) 0 f.parameters d.1;
         run = λ opens frame turns spent n z fit.

@@ -88,7 +88,7 @@ module _ {C : Type 0} {pay : ℕ → C → C} (x : Around C pay) (h : Sound x) (
   initialiser_right : KeepsInitialiser RightFirst (type_initialiser x.scene scope) (initialiser_step C pay (setting x))
   initialiser_right (initial.Value o) p st w = good_more (Be x h scope (whole_type x h scope (operand_type x.scene scope o))) (λ v q. On x h scope q × (Fits x.scene.structs (whole_type x h scope (operand_type x.scene scope o)) v × Bounded (operand_type x.scene scope o) v)) (run_operand C pay (setting x) o p) (operand_well x h scope o p st w) (λ v q g. (g.0, (g.1.0, inl g.1.1)))
   initialiser_right (initial.Elements m es) p st w =
-      let b = both (are_stated (local 0 m).sizes) _ w in
+      let b = both (are_stated (local 0 m).sizes) _ (both (nat_lt 0 (length (map (λ (e : Pair RightFirst). e.0) es))) _ w).1 in
       good_then (λ vs q. On x h scope q × ((all_fit (map (fits x.scene.structs) vs) (map (size_in x.opens) (local 0 m).sizes) (Some (local 0 m).base) ≡ true) × (length (map (fits x.scene.structs) vs) ≡ length (map (λ (e : Pair RightFirst). e.0) es)))) _ (listed C pay (map (λ (e : Pair RightFirst). e.1) es) p) _ (elements_right es (local 0 m).sizes (Some (local 0 m).base) p st b.1) (λ vs q g. (g.0, (fits_roll x.scene.structs (layer.List vs) (length (map (λ (e : Pair RightFirst). e.0) es) ∷ map (size_in x.opens) (local 0 m).sizes) (Some (local 0 m).base) ∙ and_true (length (map (fits x.scene.structs) vs) == length (map (λ (e : Pair RightFirst). e.0) es)) _ (eq-eqb _ _ g.1.1) g.1.0, inr b.0)))
   initialiser_right (initial.Fields n es) p st w =
       let b = both (nat_lt n (length x.scene.structs)) _ w in

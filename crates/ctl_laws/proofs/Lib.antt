@@ -14,3 +14,4 @@ pub mod Programs
 pub mod Library
 pub mod Twins
 pub mod Counts
+pub mod Inside

@@ -40,7 +40,8 @@ use Rattle.ctl_types.specs.Library.{result_of, result_from, outputs_from, shape_
 use Rattle.ctl_types.specs.Run.{library_came, library_run}
 use Rattle.ctl_types.specs.Typing.{result_type, Formal, Signature, row_formals_from, row_signature}
 use Rattle.ctl_types.specs.Pairs.{Pair, KeepsValue, value_pair}
-use Rattle.ctl_laws.specs.Sound.{Of, RawsComeOut}
+use Rattle.ctl_laws.specs.Sound.{Of}
+use Rattle.library_ranges.specs.Ranges.{RawsComeOut}
 use Rattle.ctl_laws.proofs.Initialisers.{zero_fits}
 use Rattle.ctl_laws.proofs.Values.{nothing_fits, scalars_nothing, both, and_true, kinds_same, fits_roll, map_length}
 use Rattle.ctl_laws.proofs.Ranges.{Numbers, kind_raw}

@@ -14,13 +14,13 @@ use Rattle.ctl_types.specs.declared.expression.Argument.TheFolds.{map-Argument, 
 use Rattle.ctl_types.specs.Scalars.{scalar, in_range, operate, operator_kind, converted}
 use Rattle.ctl_types.specs.Shapes.{Whole}
 use Rattle.ctl_types.specs.Values.{Env, one, part_of, part_at, var_of, put_at, stored, Fits, scalars}
-use Rattle.ctl_types.specs.Typing.{Typed, is_scalar, is_index, node_stands, element_type, field_type, variable_type, Variable, Variables, steps_type, as_converted, works, Passing, In, Out, Absent, PlaceType, type_argument, type_step, type_link}
-use Rattle.ctl_types.specs.Run.{Pixel, Run, give, held, go_on, convert, operated, index_in, field_in, StepRun, LinkRun, PlaceRun, Passed, Target, ArgumentRun, steps_run, found, path_run, place_path, put_back, converted_back, word_or_zero, pass_value, argument_step, step_step, link_step, stepped, paid}
+use Rattle.ctl_types.specs.Typing.{Typed, is_scalar, is_index, node_stands, element_type, field_type, variable_type, Variable, Variables, steps_type, as_converted, OperandType, taken, is_kind_between, works, Passing, In, Out, Absent, PlaceType, type_argument, type_step, type_link}
+use Rattle.ctl_types.specs.Run.{Pixel, Run, give, held, go_on, convert, operated, index_in, field_in, StepRun, LinkRun, PlaceRun, Passed, Target, ArgumentRun, steps_run, found, path_run, place_path, put_back, converted_back, word_as, pass_value, argument_step, step_step, link_step, stepped, paid}
 use Rattle.ctl_types.specs.Pairs.{Pair}
 use Rattle.ctl_laws.specs.Sound.{Of, variable_shape, Stands}
 use Rattle.ctl_laws.proofs.Values.{both, shape, Leads, array_leads, struct_leads, part_few, PathTo, path_snoc, path_at, path_put, scalars_one}
 use Rattle.ctl_laws.proofs.Ranges.{operate_gives, converted_range, scalar_fits}
-use Rattle.ctl_laws.proofs.Runs.{Good, good_then, good_more, good_held, good_word, good_number, good_index, good_field, word_or_range}
+use Rattle.ctl_laws.proofs.Runs.{Good, good_then, good_more, good_held, good_word, good_number, good_index, good_field, word_as_range}
 use Rattle.ctl_laws.proofs.Shapes.{full, has_full, index_full, element_full, field_full, type_some, stand_at, stand_set}
 use Rattle.ctl_laws.proofs.Around.{Around, Sound}
 
@@ -37,6 +37,9 @@ module _ {C : Type 0} {pay : ℕ → C → C} (x : Around C pay) (h : Sound x) (
 
   abbrev pub Right : Typed → Run C pay Value → Type 0
   Right t run = (p : Pixel C pay) → On p → t.well ≡ true → Good (Be (whole_type t)) (run p)
+
+  abbrev pub RightOperand : OperandType → Run C pay Value → Type 0
+  RightOperand o run = Right (taken o) run
 
   -- a number that leads from one shape to another, whatever the value
   abbrev pub LeadsAll : Whole → ℕ → Whole → Type 0
@@ -68,47 +71,47 @@ module _ {C : Type 0} {pay : ℕ → C → C} (x : Around C pay) (h : Sound x) (
   RightArgument Absent run = (run.target ≡ None) × ((p : Pixel C pay) → On p → Good (λ q p. On p × (q.value ≡ None)) (run.run p))
 
   -- the types of a form's parts, and their runs
-  abbrev pub typed_argument : Argument-F (Pair RightArgument) (Pair Right) (Pair RightStep) (Pair Right) (Pair Right) (Pair RightLink) (Pair RightPlace) → Argument-F Passing Typed (Typed → Typed) Typed Typed (Typed → Typed) PlaceType
-  typed_argument = map-Argument (Pair RightArgument) (Pair Right) (Pair RightStep) (Pair Right) (Pair Right) (Pair RightLink) (Pair RightPlace) Passing Typed (Typed → Typed) Typed Typed (Typed → Typed) PlaceType (λ e. e.0) (λ e. e.0) (λ e. e.0) (λ e. e.0) (λ e. e.0) (λ e. e.0) (λ e. e.0)
+  abbrev pub typed_argument : Argument-F (Pair RightArgument) (Pair Right) (Pair RightStep) (Pair RightOperand) (Pair Right) (Pair RightLink) (Pair RightPlace) → Argument-F Passing Typed (Typed → Typed) OperandType Typed (Typed → Typed) PlaceType
+  typed_argument = map-Argument (Pair RightArgument) (Pair Right) (Pair RightStep) (Pair RightOperand) (Pair Right) (Pair RightLink) (Pair RightPlace) Passing Typed (Typed → Typed) OperandType Typed (Typed → Typed) PlaceType (λ e. e.0) (λ e. e.0) (λ e. e.0) (λ e. e.0) (λ e. e.0) (λ e. e.0) (λ e. e.0)
 
-  abbrev pub ran_argument : Argument-F (Pair RightArgument) (Pair Right) (Pair RightStep) (Pair Right) (Pair Right) (Pair RightLink) (Pair RightPlace) → Argument-F (ArgumentRun C pay) (Run C pay Value) (StepRun C pay) (Run C pay Value) (Run C pay Value) (LinkRun C pay) (PlaceRun C pay)
-  ran_argument = map-Argument (Pair RightArgument) (Pair Right) (Pair RightStep) (Pair Right) (Pair Right) (Pair RightLink) (Pair RightPlace) (ArgumentRun C pay) (Run C pay Value) (StepRun C pay) (Run C pay Value) (Run C pay Value) (LinkRun C pay) (PlaceRun C pay) (λ e. e.1) (λ e. e.1) (λ e. e.1) (λ e. e.1) (λ e. e.1) (λ e. e.1) (λ e. e.1)
+  abbrev pub ran_argument : Argument-F (Pair RightArgument) (Pair Right) (Pair RightStep) (Pair RightOperand) (Pair Right) (Pair RightLink) (Pair RightPlace) → Argument-F (ArgumentRun C pay) (Run C pay Value) (StepRun C pay) (Run C pay Value) (Run C pay Value) (LinkRun C pay) (PlaceRun C pay)
+  ran_argument = map-Argument (Pair RightArgument) (Pair Right) (Pair RightStep) (Pair RightOperand) (Pair Right) (Pair RightLink) (Pair RightPlace) (ArgumentRun C pay) (Run C pay Value) (StepRun C pay) (Run C pay Value) (Run C pay Value) (LinkRun C pay) (PlaceRun C pay) (λ e. e.1) (λ e. e.1) (λ e. e.1) (λ e. e.1) (λ e. e.1) (λ e. e.1) (λ e. e.1)
 
-  abbrev pub typed_expr : TypedExpr-F (Pair RightArgument) (Pair Right) (Pair RightStep) (Pair Right) (Pair Right) (Pair RightLink) (Pair RightPlace) → TypedExpr-F Passing Typed (Typed → Typed) Typed Typed (Typed → Typed) PlaceType
-  typed_expr = map-TypedExpr (Pair RightArgument) (Pair Right) (Pair RightStep) (Pair Right) (Pair Right) (Pair RightLink) (Pair RightPlace) Passing Typed (Typed → Typed) Typed Typed (Typed → Typed) PlaceType (λ e. e.0) (λ e. e.0) (λ e. e.0) (λ e. e.0) (λ e. e.0) (λ e. e.0) (λ e. e.0)
+  abbrev pub typed_expr : TypedExpr-F (Pair RightArgument) (Pair Right) (Pair RightStep) (Pair RightOperand) (Pair Right) (Pair RightLink) (Pair RightPlace) → TypedExpr-F Passing Typed (Typed → Typed) OperandType Typed (Typed → Typed) PlaceType
+  typed_expr = map-TypedExpr (Pair RightArgument) (Pair Right) (Pair RightStep) (Pair RightOperand) (Pair Right) (Pair RightLink) (Pair RightPlace) Passing Typed (Typed → Typed) OperandType Typed (Typed → Typed) PlaceType (λ e. e.0) (λ e. e.0) (λ e. e.0) (λ e. e.0) (λ e. e.0) (λ e. e.0) (λ e. e.0)
 
-  abbrev pub ran_expr : TypedExpr-F (Pair RightArgument) (Pair Right) (Pair RightStep) (Pair Right) (Pair Right) (Pair RightLink) (Pair RightPlace) → TypedExpr-F (ArgumentRun C pay) (Run C pay Value) (StepRun C pay) (Run C pay Value) (Run C pay Value) (LinkRun C pay) (PlaceRun C pay)
-  ran_expr = map-TypedExpr (Pair RightArgument) (Pair Right) (Pair RightStep) (Pair Right) (Pair Right) (Pair RightLink) (Pair RightPlace) (ArgumentRun C pay) (Run C pay Value) (StepRun C pay) (Run C pay Value) (Run C pay Value) (LinkRun C pay) (PlaceRun C pay) (λ e. e.1) (λ e. e.1) (λ e. e.1) (λ e. e.1) (λ e. e.1) (λ e. e.1) (λ e. e.1)
+  abbrev pub ran_expr : TypedExpr-F (Pair RightArgument) (Pair Right) (Pair RightStep) (Pair RightOperand) (Pair Right) (Pair RightLink) (Pair RightPlace) → TypedExpr-F (ArgumentRun C pay) (Run C pay Value) (StepRun C pay) (Run C pay Value) (Run C pay Value) (LinkRun C pay) (PlaceRun C pay)
+  ran_expr = map-TypedExpr (Pair RightArgument) (Pair Right) (Pair RightStep) (Pair RightOperand) (Pair Right) (Pair RightLink) (Pair RightPlace) (ArgumentRun C pay) (Run C pay Value) (StepRun C pay) (Run C pay Value) (Run C pay Value) (LinkRun C pay) (PlaceRun C pay) (λ e. e.1) (λ e. e.1) (λ e. e.1) (λ e. e.1) (λ e. e.1) (λ e. e.1) (λ e. e.1)
 
-  abbrev pub typed_step : TypedStep-F (Pair RightArgument) (Pair Right) (Pair RightStep) (Pair Right) (Pair Right) (Pair RightLink) (Pair RightPlace) → TypedStep-F Passing Typed (Typed → Typed) Typed Typed (Typed → Typed) PlaceType
-  typed_step = map-TypedStep (Pair RightArgument) (Pair Right) (Pair RightStep) (Pair Right) (Pair Right) (Pair RightLink) (Pair RightPlace) Passing Typed (Typed → Typed) Typed Typed (Typed → Typed) PlaceType (λ e. e.0) (λ e. e.0) (λ e. e.0) (λ e. e.0) (λ e. e.0) (λ e. e.0) (λ e. e.0)
+  abbrev pub typed_step : TypedStep-F (Pair RightArgument) (Pair Right) (Pair RightStep) (Pair RightOperand) (Pair Right) (Pair RightLink) (Pair RightPlace) → TypedStep-F Passing Typed (Typed → Typed) OperandType Typed (Typed → Typed) PlaceType
+  typed_step = map-TypedStep (Pair RightArgument) (Pair Right) (Pair RightStep) (Pair RightOperand) (Pair Right) (Pair RightLink) (Pair RightPlace) Passing Typed (Typed → Typed) OperandType Typed (Typed → Typed) PlaceType (λ e. e.0) (λ e. e.0) (λ e. e.0) (λ e. e.0) (λ e. e.0) (λ e. e.0) (λ e. e.0)
 
-  abbrev pub ran_step : TypedStep-F (Pair RightArgument) (Pair Right) (Pair RightStep) (Pair Right) (Pair Right) (Pair RightLink) (Pair RightPlace) → TypedStep-F (ArgumentRun C pay) (Run C pay Value) (StepRun C pay) (Run C pay Value) (Run C pay Value) (LinkRun C pay) (PlaceRun C pay)
-  ran_step = map-TypedStep (Pair RightArgument) (Pair Right) (Pair RightStep) (Pair Right) (Pair Right) (Pair RightLink) (Pair RightPlace) (ArgumentRun C pay) (Run C pay Value) (StepRun C pay) (Run C pay Value) (Run C pay Value) (LinkRun C pay) (PlaceRun C pay) (λ e. e.1) (λ e. e.1) (λ e. e.1) (λ e. e.1) (λ e. e.1) (λ e. e.1) (λ e. e.1)
+  abbrev pub ran_step : TypedStep-F (Pair RightArgument) (Pair Right) (Pair RightStep) (Pair RightOperand) (Pair Right) (Pair RightLink) (Pair RightPlace) → TypedStep-F (ArgumentRun C pay) (Run C pay Value) (StepRun C pay) (Run C pay Value) (Run C pay Value) (LinkRun C pay) (PlaceRun C pay)
+  ran_step = map-TypedStep (Pair RightArgument) (Pair Right) (Pair RightStep) (Pair RightOperand) (Pair Right) (Pair RightLink) (Pair RightPlace) (ArgumentRun C pay) (Run C pay Value) (StepRun C pay) (Run C pay Value) (Run C pay Value) (LinkRun C pay) (PlaceRun C pay) (λ e. e.1) (λ e. e.1) (λ e. e.1) (λ e. e.1) (λ e. e.1) (λ e. e.1) (λ e. e.1)
 
-  abbrev pub typed_operand : Operand-F (Pair RightArgument) (Pair Right) (Pair RightStep) (Pair Right) (Pair Right) (Pair RightLink) (Pair RightPlace) → Operand-F Passing Typed (Typed → Typed) Typed Typed (Typed → Typed) PlaceType
-  typed_operand = map-Operand (Pair RightArgument) (Pair Right) (Pair RightStep) (Pair Right) (Pair Right) (Pair RightLink) (Pair RightPlace) Passing Typed (Typed → Typed) Typed Typed (Typed → Typed) PlaceType (λ e. e.0) (λ e. e.0) (λ e. e.0) (λ e. e.0) (λ e. e.0) (λ e. e.0) (λ e. e.0)
+  abbrev pub typed_operand : Operand-F (Pair RightArgument) (Pair Right) (Pair RightStep) (Pair RightOperand) (Pair Right) (Pair RightLink) (Pair RightPlace) → Operand-F Passing Typed (Typed → Typed) OperandType Typed (Typed → Typed) PlaceType
+  typed_operand = map-Operand (Pair RightArgument) (Pair Right) (Pair RightStep) (Pair RightOperand) (Pair Right) (Pair RightLink) (Pair RightPlace) Passing Typed (Typed → Typed) OperandType Typed (Typed → Typed) PlaceType (λ e. e.0) (λ e. e.0) (λ e. e.0) (λ e. e.0) (λ e. e.0) (λ e. e.0) (λ e. e.0)
 
-  abbrev pub ran_operand : Operand-F (Pair RightArgument) (Pair Right) (Pair RightStep) (Pair Right) (Pair Right) (Pair RightLink) (Pair RightPlace) → Operand-F (ArgumentRun C pay) (Run C pay Value) (StepRun C pay) (Run C pay Value) (Run C pay Value) (LinkRun C pay) (PlaceRun C pay)
-  ran_operand = map-Operand (Pair RightArgument) (Pair Right) (Pair RightStep) (Pair Right) (Pair Right) (Pair RightLink) (Pair RightPlace) (ArgumentRun C pay) (Run C pay Value) (StepRun C pay) (Run C pay Value) (Run C pay Value) (LinkRun C pay) (PlaceRun C pay) (λ e. e.1) (λ e. e.1) (λ e. e.1) (λ e. e.1) (λ e. e.1) (λ e. e.1) (λ e. e.1)
+  abbrev pub ran_operand : Operand-F (Pair RightArgument) (Pair Right) (Pair RightStep) (Pair RightOperand) (Pair Right) (Pair RightLink) (Pair RightPlace) → Operand-F (ArgumentRun C pay) (Run C pay Value) (StepRun C pay) (Run C pay Value) (Run C pay Value) (LinkRun C pay) (PlaceRun C pay)
+  ran_operand = map-Operand (Pair RightArgument) (Pair Right) (Pair RightStep) (Pair RightOperand) (Pair Right) (Pair RightLink) (Pair RightPlace) (ArgumentRun C pay) (Run C pay Value) (StepRun C pay) (Run C pay Value) (Run C pay Value) (LinkRun C pay) (PlaceRun C pay) (λ e. e.1) (λ e. e.1) (λ e. e.1) (λ e. e.1) (λ e. e.1) (λ e. e.1) (λ e. e.1)
 
-  abbrev pub typed_call : TypedCall-F (Pair RightArgument) (Pair Right) (Pair RightStep) (Pair Right) (Pair Right) (Pair RightLink) (Pair RightPlace) → TypedCall-F Passing Typed (Typed → Typed) Typed Typed (Typed → Typed) PlaceType
-  typed_call = map-TypedCall (Pair RightArgument) (Pair Right) (Pair RightStep) (Pair Right) (Pair Right) (Pair RightLink) (Pair RightPlace) Passing Typed (Typed → Typed) Typed Typed (Typed → Typed) PlaceType (λ e. e.0) (λ e. e.0) (λ e. e.0) (λ e. e.0) (λ e. e.0) (λ e. e.0) (λ e. e.0)
+  abbrev pub typed_call : TypedCall-F (Pair RightArgument) (Pair Right) (Pair RightStep) (Pair RightOperand) (Pair Right) (Pair RightLink) (Pair RightPlace) → TypedCall-F Passing Typed (Typed → Typed) OperandType Typed (Typed → Typed) PlaceType
+  typed_call = map-TypedCall (Pair RightArgument) (Pair Right) (Pair RightStep) (Pair RightOperand) (Pair Right) (Pair RightLink) (Pair RightPlace) Passing Typed (Typed → Typed) OperandType Typed (Typed → Typed) PlaceType (λ e. e.0) (λ e. e.0) (λ e. e.0) (λ e. e.0) (λ e. e.0) (λ e. e.0) (λ e. e.0)
 
-  abbrev pub ran_call : TypedCall-F (Pair RightArgument) (Pair Right) (Pair RightStep) (Pair Right) (Pair Right) (Pair RightLink) (Pair RightPlace) → TypedCall-F (ArgumentRun C pay) (Run C pay Value) (StepRun C pay) (Run C pay Value) (Run C pay Value) (LinkRun C pay) (PlaceRun C pay)
-  ran_call = map-TypedCall (Pair RightArgument) (Pair Right) (Pair RightStep) (Pair Right) (Pair Right) (Pair RightLink) (Pair RightPlace) (ArgumentRun C pay) (Run C pay Value) (StepRun C pay) (Run C pay Value) (Run C pay Value) (LinkRun C pay) (PlaceRun C pay) (λ e. e.1) (λ e. e.1) (λ e. e.1) (λ e. e.1) (λ e. e.1) (λ e. e.1) (λ e. e.1)
+  abbrev pub ran_call : TypedCall-F (Pair RightArgument) (Pair Right) (Pair RightStep) (Pair RightOperand) (Pair Right) (Pair RightLink) (Pair RightPlace) → TypedCall-F (ArgumentRun C pay) (Run C pay Value) (StepRun C pay) (Run C pay Value) (Run C pay Value) (LinkRun C pay) (PlaceRun C pay)
+  ran_call = map-TypedCall (Pair RightArgument) (Pair Right) (Pair RightStep) (Pair RightOperand) (Pair Right) (Pair RightLink) (Pair RightPlace) (ArgumentRun C pay) (Run C pay Value) (StepRun C pay) (Run C pay Value) (Run C pay Value) (LinkRun C pay) (PlaceRun C pay) (λ e. e.1) (λ e. e.1) (λ e. e.1) (λ e. e.1) (λ e. e.1) (λ e. e.1) (λ e. e.1)
 
-  abbrev pub typed_link : TypedLink-F (Pair RightArgument) (Pair Right) (Pair RightStep) (Pair Right) (Pair Right) (Pair RightLink) (Pair RightPlace) → TypedLink-F Passing Typed (Typed → Typed) Typed Typed (Typed → Typed) PlaceType
-  typed_link = map-TypedLink (Pair RightArgument) (Pair Right) (Pair RightStep) (Pair Right) (Pair Right) (Pair RightLink) (Pair RightPlace) Passing Typed (Typed → Typed) Typed Typed (Typed → Typed) PlaceType (λ e. e.0) (λ e. e.0) (λ e. e.0) (λ e. e.0) (λ e. e.0) (λ e. e.0) (λ e. e.0)
+  abbrev pub typed_link : TypedLink-F (Pair RightArgument) (Pair Right) (Pair RightStep) (Pair RightOperand) (Pair Right) (Pair RightLink) (Pair RightPlace) → TypedLink-F Passing Typed (Typed → Typed) OperandType Typed (Typed → Typed) PlaceType
+  typed_link = map-TypedLink (Pair RightArgument) (Pair Right) (Pair RightStep) (Pair RightOperand) (Pair Right) (Pair RightLink) (Pair RightPlace) Passing Typed (Typed → Typed) OperandType Typed (Typed → Typed) PlaceType (λ e. e.0) (λ e. e.0) (λ e. e.0) (λ e. e.0) (λ e. e.0) (λ e. e.0) (λ e. e.0)
 
-  abbrev pub ran_link : TypedLink-F (Pair RightArgument) (Pair Right) (Pair RightStep) (Pair Right) (Pair Right) (Pair RightLink) (Pair RightPlace) → TypedLink-F (ArgumentRun C pay) (Run C pay Value) (StepRun C pay) (Run C pay Value) (Run C pay Value) (LinkRun C pay) (PlaceRun C pay)
-  ran_link = map-TypedLink (Pair RightArgument) (Pair Right) (Pair RightStep) (Pair Right) (Pair Right) (Pair RightLink) (Pair RightPlace) (ArgumentRun C pay) (Run C pay Value) (StepRun C pay) (Run C pay Value) (Run C pay Value) (LinkRun C pay) (PlaceRun C pay) (λ e. e.1) (λ e. e.1) (λ e. e.1) (λ e. e.1) (λ e. e.1) (λ e. e.1) (λ e. e.1)
+  abbrev pub ran_link : TypedLink-F (Pair RightArgument) (Pair Right) (Pair RightStep) (Pair RightOperand) (Pair Right) (Pair RightLink) (Pair RightPlace) → TypedLink-F (ArgumentRun C pay) (Run C pay Value) (StepRun C pay) (Run C pay Value) (Run C pay Value) (LinkRun C pay) (PlaceRun C pay)
+  ran_link = map-TypedLink (Pair RightArgument) (Pair Right) (Pair RightStep) (Pair RightOperand) (Pair Right) (Pair RightLink) (Pair RightPlace) (ArgumentRun C pay) (Run C pay Value) (StepRun C pay) (Run C pay Value) (Run C pay Value) (LinkRun C pay) (PlaceRun C pay) (λ e. e.1) (λ e. e.1) (λ e. e.1) (λ e. e.1) (λ e. e.1) (λ e. e.1) (λ e. e.1)
 
-  abbrev pub typed_place : TypedPlace-F (Pair RightArgument) (Pair Right) (Pair RightStep) (Pair Right) (Pair Right) (Pair RightLink) (Pair RightPlace) → TypedPlace-F Passing Typed (Typed → Typed) Typed Typed (Typed → Typed) PlaceType
-  typed_place = map-TypedPlace (Pair RightArgument) (Pair Right) (Pair RightStep) (Pair Right) (Pair Right) (Pair RightLink) (Pair RightPlace) Passing Typed (Typed → Typed) Typed Typed (Typed → Typed) PlaceType (λ e. e.0) (λ e. e.0) (λ e. e.0) (λ e. e.0) (λ e. e.0) (λ e. e.0) (λ e. e.0)
+  abbrev pub typed_place : TypedPlace-F (Pair RightArgument) (Pair Right) (Pair RightStep) (Pair RightOperand) (Pair Right) (Pair RightLink) (Pair RightPlace) → TypedPlace-F Passing Typed (Typed → Typed) OperandType Typed (Typed → Typed) PlaceType
+  typed_place = map-TypedPlace (Pair RightArgument) (Pair Right) (Pair RightStep) (Pair RightOperand) (Pair Right) (Pair RightLink) (Pair RightPlace) Passing Typed (Typed → Typed) OperandType Typed (Typed → Typed) PlaceType (λ e. e.0) (λ e. e.0) (λ e. e.0) (λ e. e.0) (λ e. e.0) (λ e. e.0) (λ e. e.0)
 
-  abbrev pub ran_place : TypedPlace-F (Pair RightArgument) (Pair Right) (Pair RightStep) (Pair Right) (Pair Right) (Pair RightLink) (Pair RightPlace) → TypedPlace-F (ArgumentRun C pay) (Run C pay Value) (StepRun C pay) (Run C pay Value) (Run C pay Value) (LinkRun C pay) (PlaceRun C pay)
-  ran_place = map-TypedPlace (Pair RightArgument) (Pair Right) (Pair RightStep) (Pair Right) (Pair Right) (Pair RightLink) (Pair RightPlace) (ArgumentRun C pay) (Run C pay Value) (StepRun C pay) (Run C pay Value) (Run C pay Value) (LinkRun C pay) (PlaceRun C pay) (λ e. e.1) (λ e. e.1) (λ e. e.1) (λ e. e.1) (λ e. e.1) (λ e. e.1) (λ e. e.1)
+  abbrev pub ran_place : TypedPlace-F (Pair RightArgument) (Pair Right) (Pair RightStep) (Pair RightOperand) (Pair Right) (Pair RightLink) (Pair RightPlace) → TypedPlace-F (ArgumentRun C pay) (Run C pay Value) (StepRun C pay) (Run C pay Value) (Run C pay Value) (LinkRun C pay) (PlaceRun C pay)
+  ran_place = map-TypedPlace (Pair RightArgument) (Pair Right) (Pair RightStep) (Pair RightOperand) (Pair Right) (Pair RightLink) (Pair RightPlace) (ArgumentRun C pay) (Run C pay Value) (StepRun C pay) (Run C pay Value) (Run C pay Value) (LinkRun C pay) (PlaceRun C pay) (λ e. e.1) (λ e. e.1) (λ e. e.1) (λ e. e.1) (λ e. e.1) (λ e. e.1) (λ e. e.1)
 
   -- values of shapes that are the same
   pub fits_as : (a b : Whole) (v : Value) → a ≡ b → Fits x.scene.structs a v → Fits x.scene.structs b v
@@ -122,7 +125,7 @@ module _ {C : Type 0} {pay : ℕ → C → C} (x : Around C pay) (h : Sound x) (
 
   -- ---- steps
 
-  pub step_right : (y : TypedStep-F (Pair RightArgument) (Pair Right) (Pair RightStep) (Pair Right) (Pair Right) (Pair RightLink) (Pair RightPlace)) → RightStep (type_step x.scene scope (typed_step y)) (step_step C pay (ran_step y))
+  pub step_right : (y : TypedStep-F (Pair RightArgument) (Pair Right) (Pair RightStep) (Pair RightOperand) (Pair Right) (Pair RightLink) (Pair RightPlace)) → RightStep (type_step x.scene scope (typed_step y)) (step_step C pay (ran_step y))
   step_right (form.Index e node) t w =
       let b = both (is_index e.0 && node_stands x.scene node) _ w in
       let i = index_full x.opens e.0 (both (is_index e.0) _ b.0).0 in
@@ -196,17 +199,21 @@ module _ {C : Type 0} {pay : ℕ → C → C} (x : Around C pay) (h : Sound x) (
 
   -- ---- conversions
 
+  -- a value that is converted is a scalar
+  between : (a b : ScalarKind) (t : Typed) → (as_converted (Between a b) t).well ≡ true → is_scalar a t ≡ true
+  between a b t w = (both (is_scalar a t) _ w).0
+
   pub type_before : (c : Conversion) (t : Typed) → (as_converted c t).well ≡ true → t.well ≡ true
   type_before Same t w = w
-  type_before (Between a b) t w = (has_full x.opens t [] (Some (Scalar a)) w).0
+  type_before (Between a b) t w = (has_full x.opens t [] (Some (Scalar a)) (between a b t w)).0
 
   pub convert_right : (c : Conversion) (t : Typed) (v : Value) (p : Pixel C pay) → On p → (as_converted c t).well ≡ true → Of x.scene.structs (whole_type t) v → Good (Be (whole_type (as_converted c t))) (convert C pay c v p)
   convert_right Same t v p st w f = (st, f)
-  convert_right (Between a b) t v p st w f = good_word x.scene.structs _ a _ v p (fits_as _ _ v (has_full x.opens t [] (Some (Scalar a)) w).1 f.0) (λ z r. (st, scalar_of b (converted FRACTION a b z) (converted_range h.numbers a b z r)))
+  convert_right (Between a b) t v p st w f = good_word x.scene.structs _ a _ v p (fits_as _ _ v (has_full x.opens t [] (Some (Scalar a)) (between a b t w)).1 f.0) (λ z r. (st, scalar_of b (converted FRACTION a b z) (converted_range h.numbers a b z r)))
 
   pub back_right : (c : Conversion) (t : Typed) (v : Value) → (as_converted c t).well ≡ true → Fits x.scene.structs (whole_type (as_converted c t)) v → Fits x.scene.structs (whole_type t) (converted_back c v)
   back_right Same t v w f = f
-  back_right (Between a b) t v w f = fits_as _ _ _ (sym (has_full x.opens t [] (Some (Scalar a)) w).1) (scalar_fits x.scene.structs a (converted FRACTION b a (word_or_zero (out-Value v))) (converted_range h.numbers b a (word_or_zero (out-Value v)) (word_or_range x.scene.structs b v f)))
+  back_right (Between a b) t v w f = fits_as _ _ _ (sym (has_full x.opens t [] (Some (Scalar a)) (between a b t w)).1) (scalar_fits x.scene.structs a (word_as a (out-Value v)) (word_as_range x.scene.structs a b v (λ k z r. converted_range h.numbers k a z r) f))
 
   pub operand_right : (c : Conversion) (e : Pair Right) → Right (as_converted c e.0) (λ p. go_on C pay (e.1 p) (convert C pay c))
   operand_right c e p st w = good_then (Be (whole_type e.0)) _ (e.1 p) _ (e.2 p st (type_before c e.0 w)) (λ v q g. convert_right c e.0 v q g.0 w g.1)
@@ -218,20 +225,21 @@ module _ {C : Type 0} {pay : ℕ → C → C} (x : Around C pay) (h : Sound x) (
       let z = operate_gives h.numbers op k a b w r s in
       good_held _ (operate FRACTION op k a b) (λ z. give C pay (one (scalar (operator_kind op k) z))) p z.0 z.1 (st, scalar_of (operator_kind op k) z.0 z.2)))
 
-  pub link_right : (y : TypedLink-F (Pair RightArgument) (Pair Right) (Pair RightStep) (Pair Right) (Pair Right) (Pair RightLink) (Pair RightPlace)) → RightLink (type_link x.scene scope (typed_link y)) (link_step C pay (ran_link y))
+  pub link_right : (y : TypedLink-F (Pair RightArgument) (Pair Right) (Pair RightStep) (Pair RightOperand) (Pair Right) (Pair RightLink) (Pair RightPlace)) → RightLink (type_link x.scene scope (typed_link y)) (link_step C pay (ran_link y))
   link_right y t w =
-      let b = both (works y.operator y.kind) _ w in
-      let c = both (is_scalar y.kind (as_converted y.left t)) _ b.1 in
+      let a = both (works y.operator y.kind && is_kind_between y.kind t.base y.right.0.value.base) _ w in
+      let b = both (works y.operator y.kind) _ a.0 in
+      let c = both (is_scalar y.kind (as_converted y.left t)) _ a.1 in
       let l = has_full x.opens (as_converted y.left t) [] (Some (Scalar y.kind)) c.0 in
-      let r = has_full x.opens y.right.0 [] (Some (Scalar y.kind)) c.1 in (
+      let r = has_full x.opens (taken y.right.0) [] (Some (Scalar y.kind)) c.1 in (
         type_before y.left t l.0,
-        λ v p f st. good_then (Be (whole_type y.right.0)) _ (y.right.1 p) _ (y.right.2 p st r.0) (λ u q g. good_then (Be (whole_type (as_converted y.left t))) _ (convert C pay y.left v q) _ (convert_right y.left t v q g.0 l.0 f) (λ z s k. operated_right y.operator y.kind z u s k.0 b.0 (fits_as _ _ z l.1 k.1.0) (fits_as _ _ u r.1 g.1.0))),
+        λ v p f st. good_then (Be (whole_type (taken y.right.0))) _ (y.right.1 p) _ (y.right.2 p st r.0) (λ u q g. good_then (Be (whole_type (as_converted y.left t))) _ (convert C pay y.left v q) _ (convert_right y.left t v q g.0 l.0 f) (λ z s k. operated_right y.operator y.kind z u s k.0 b.0 (fits_as _ _ z l.1 k.1.0) (fits_as _ _ u r.1 g.1.0))),
       )
 
   -- ---- arguments
 
-  pub argument_right : (y : Argument-F (Pair RightArgument) (Pair Right) (Pair RightStep) (Pair Right) (Pair Right) (Pair RightLink) (Pair RightPlace)) → RightArgument (type_argument x.scene scope (typed_argument y)) (argument_step C pay (ran_argument y))
-  argument_right (form.Input o node) = λ w p st. good_then (Be (whole_type o.0)) (λ q p. On p × PassedAs None (whole_type o.0) q) (o.1 p) (pass_value C pay []) (o.2 p st (both (node_stands x.scene node) _ w).1) (λ v q g. (g.0, (v, refl, g.1, λ u p f k. k)))
+  pub argument_right : (y : Argument-F (Pair RightArgument) (Pair Right) (Pair RightStep) (Pair RightOperand) (Pair Right) (Pair RightLink) (Pair RightPlace)) → RightArgument (type_argument x.scene scope (typed_argument y)) (argument_step C pay (ran_argument y))
+  argument_right (form.Input o node) = λ w p st. good_then (Be (whole_type (taken o.0))) (λ q p. On p × PassedAs None (whole_type (taken o.0)) q) (o.1 p) (pass_value C pay []) (o.2 p st (both (node_stands x.scene node) _ w).1) (λ v q g. (g.0, (v, refl, g.1, λ u p f k. k)))
   argument_right (form.Output place c node) = λ w p st.
       let cw = (both (node_stands x.scene node) _ w).1 in
       let t : Option Target = Some (record { variable = place.1.variable; conversion = c }) in

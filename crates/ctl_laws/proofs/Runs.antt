@@ -1,5 +1,5 @@
 -- Runs that are not wrong.
-use Rattle.std.proofs.Common.{◌≡◌, ℕ, ℤ, pos, ◌<◌, List, [], ◌∷◌, length, Option, Some, None, Ok, Err, Bool, true, false, not, ◌&&◌, if◌then◌else◌, nat_lt, int_lt, unsigned_abs, refl, sym, subst, ◌∙◌, arith, slice_get, ltb-true, lt-ltb}
+use Rattle.std.proofs.Common.{◌≡◌, ℕ, ℤ, pos, ◌<◌, ◌^◌, List, [], ◌∷◌, length, Option, Some, None, Ok, Err, Bool, true, false, not, ◌&&◌, if◌then◌else◌, nat_lt, int_lt, unsigned_abs, refl, sym, subst, ◌∙◌, arith, slice_get, ltb-true, lt-ltb}
 use Rattle.fix_num.specs.declared.TheConstants.{FRACTION}
 use Rattle.fix_num.specs.Whole.{truth}
 use Rattle.ctl_base.specs.declared.kind.Node.{Node}
@@ -15,10 +15,10 @@ use Rattle.ctl_types.specs.declared.program.Struct.{Struct as StructForm}
 use Rattle.ctl_types.specs.declared.value.Value.{Value, out-Value}
 use Rattle.ctl_types.specs.declared.value.Value.TheOpen as layer
 use Rattle.ctl_types.specs.declared.value.Value.TheOpen.{Value-F}
-use Rattle.ctl_types.specs.Scalars.{kind_of, word_of, same_kind, in_range}
+use Rattle.ctl_types.specs.Scalars.{kind_of, word_of, same_kind, in_range, converted}
 use Rattle.ctl_types.specs.Shapes.{field_shapes}
-use Rattle.ctl_types.specs.Values.{part_in, Fits}
-use Rattle.ctl_types.specs.Run.{Trapped, Wrong, Pixel, Outcome, Run, go_on, give, held, word_in, word, chosen, index_number, checked, index_in, field_in, word_or_zero}
+use Rattle.ctl_types.specs.Values.{one, part_in, Fits}
+use Rattle.ctl_types.specs.Run.{Trapped, Wrong, Pixel, Outcome, Run, go_on, give, held, word_in, word, chosen, index_number, checked, index_in, field_in, word_as, sized}
 use Rattle.ctl_laws.proofs.Values.{both, kinds_same, fits_in, fits_out, array, shape, array_long, struct_leads, get_low}
 
 -- a kind that an index may have
@@ -57,6 +57,10 @@ module _ {C : Type 0} {pay : ℕ → C → C} where
   good_either : {W : Type 0} (S : W → Pixel C pay → Type 0) (b : Bool) (a c : Run C pay W) (p : Pixel C pay) → Good S (a p) → Good S (c p) → Good S ((if b then a else c) p)
   good_either S true a c p g h = g
   good_either S false a c p g h = h
+
+  -- a size below 2^31 is an int
+  pub good_sized : (S : Value → Pixel C pay → Type 0) (n : ℕ) (p : Pixel C pay) → n < 2 ^ 31 → S (one (scalar_form.Int (pos n))) p → Good S (sized C pay n p)
+  good_sized S n p l g = good_if S (nat_lt n (2 ^ 31)) (give C pay (one (scalar_form.Int (pos n))) p) (Err Wrong) (lt-ltb _ _ l) g
 
   good_checked : (S : ℕ → Pixel C pay → Type 0) (node : Node) (z : ℤ) (size : ℕ) (p : Pixel C pay) → ((i : ℕ) → i < size → S i p) → Good S (checked C pay node z size p)
   good_checked S node z size p g = by (not (int_lt z (pos 0)) && nat_lt (unsigned_abs z) size) refl where
@@ -112,10 +116,13 @@ module _ {C : Type 0} {pay : ℕ → C → C} (structs : List StructForm) where
       field_cases S (out-Value v) s i p l.part (sym (fits_out structs v [] (Some (Struct s))) ∙ h) l.at g
 
 module _ (structs : List StructForm) where
-  word_or_cases : (k : ScalarKind) (x : Value-F Value) → fits_in structs x [] (Some (Scalar k)) ≡ true → in_range FRACTION k (word_or_zero x) ≡ true
-  word_or_cases k (layer.One s) h = (both (same_kind (kind_of s) k) _ h).1
-  word_or_cases k (layer.List vs) h = absurd (cc)
-  word_or_cases k (layer.Fields vs) h = absurd (cc)
+  -- the word that a scalar becomes in another kind is in its range, where conversions keep to it
+  word_as_cases : (a b : ScalarKind) (x : Value-F Value) → ((k : ScalarKind) (z : ℤ) → in_range FRACTION k z ≡ true → in_range FRACTION a (converted FRACTION k a z) ≡ true) → fits_in structs x [] (Some (Scalar b)) ≡ true → in_range FRACTION a (word_as a x) ≡ true
+  word_as_cases a b (layer.One s) c h =
+      let q = both (same_kind (kind_of s) b) _ h in
+      c (kind_of s) (word_of s) (subst (λ (k : ScalarKind). in_range FRACTION k (word_of s) ≡ true) (sym (kinds_same _ _ q.0)) q.1)
+  word_as_cases a b (layer.List vs) c h = absurd (cc)
+  word_as_cases a b (layer.Fields vs) c h = absurd (cc)
 
-  pub word_or_range : (k : ScalarKind) (v : Value) → Fits structs (shape [] (Some (Scalar k))) v → in_range FRACTION k (word_or_zero (out-Value v)) ≡ true
-  word_or_range k v h = word_or_cases k (out-Value v) (sym (fits_out structs v [] (Some (Scalar k))) ∙ h)
+  pub word_as_range : (a b : ScalarKind) (v : Value) → ((k : ScalarKind) (z : ℤ) → in_range FRACTION k z ≡ true → in_range FRACTION a (converted FRACTION k a z) ≡ true) → Fits structs (shape [] (Some (Scalar b))) v → in_range FRACTION a (word_as a (out-Value v)) ≡ true
+  word_as_range a b v c h = word_as_cases a b (out-Value v) c (sym (fits_out structs v [] (Some (Scalar b))) ∙ h)

@@ -1,5 +1,5 @@
 -- A well typed statement is never wrong, and the variables keep their shapes.
-use Rattle.std.proofs.Common.{◌≡◌, ℕ, zero, suc, List, [], ◌∷◌, map, Option, Some, None, Err, Bool, true, false, not, ◌&&◌, ◌||◌, ◌==◌, is_some, refl, sym, subst, ◌∙◌, arith, slice_get, slice_set}
+use Rattle.std.proofs.Common.{◌≡◌, ℕ, zero, suc, List, [], ◌∷◌, map, Option, Some, None, Err, Bool, true, false, not, ◌&&◌, ◌||◌, is_some, refl, sym, subst, ◌∙◌, arith, slice_get, slice_set, nat_lt, length}
 use Rattle.ctl_base.specs.declared.kind.Node.{Node}
 use Rattle.ctl_base.specs.declared.kind.ScalarKind.TheVariants as kind
 use Rattle.ctl_types.specs.declared.shape.Base.TheVariants.{Scalar}
@@ -17,7 +17,7 @@ use Rattle.ctl_types.specs.declared.statement.TypedStatement.TheOpen.{Empty, Blo
 use Rattle.ctl_types.specs.Shapes.{Whole, whole, size_in}
 use Rattle.ctl_types.specs.Values.{Env, nothing, Fits, fits, alike}
 use Rattle.ctl_types.specs.Typing.{Typed, has, is_scalar, shape_stands, node_stands, Variables, Variable, expr_type, operand_type, call_form_type, place_type}
-use Rattle.ctl_types.specs.Scoping.{Scope, Scoping, simple, own_scope, scope_all, scope_arms, tested, looped, is_free, scope_declaration, scope_assignment, scope_start, item_type, scope_items, left_type, scope_arm, scope_step, scope_statement}
+use Rattle.ctl_types.specs.Scoping.{Scope, Scoping, simple, own_scope, scope_all, scope_arms, tested, looped, is_free, may_declare, begins_well, scope_declaration, scope_assignment, scope_start, item_type, scope_items, left_type, scope_arm, scope_step, scope_statement}
 use Rattle.ctl_types.specs.Run.{Wrong, Pixel, Run, give, go_on, chosen, visited, End, Normal, Left, leave, unless_left, sequence, ArmRun, arms_run, take_turn, rounds, loop_run, replaced, store, found, first_value, declared, run_operand, run_place, run_expr, run_call, run_declaration, run_assignment, run_start, run_item, run_items, left_value, arm_step, statement_step, run_statement}
 use Rattle.ctl_types.specs.Pairs.{Pair, KeepsStatement, KeepsArm, statement_pair}
 use Rattle.ctl_laws.specs.Sound.{Of, Holds, Stands}
@@ -197,8 +197,8 @@ module _ {C : Type 0} {pay : ℕ → C → C} (x : Around C pay) (h : Sound x) (
 
   declaration_right : (d : Declaration) → RightStatement (scope_declaration x.scene result d) (run_declaration C pay (setting x) d)
   declaration_right d scope w =
-      let a = both (d.variable == scope.next && is_free (slice_get scope.variables d.variable)) _ w in
-      let free = (both (d.variable == scope.next) _ a.0).1 in
+      let a = both (may_declare scope d.variable && begins_well d) _ w in
+      let free = (both (is_free (slice_get scope.variables d.variable)) _ (both (may_declare scope d.variable) _ a.0).0).0 in
       let b = both (shape_stands x.scene d.shape) _ a.1 in
       (under_set scope.variables d.variable _ free, λ p st. good_then (λ v q. Stand x scope.variables q.env × Of x.scene.structs (whole x.opens d.shape.sizes (Some d.shape.base)) v) _ (first_value C pay (setting x) d.shape d.first p) (declared C pay (setting x) d.variable d.shape) (first_right x h scope.variables result d.shape d.first p st b.0 b.1) (λ v q g. declared_right d.variable d.shape (record { shape = d.shape; is_assignable = not d.is_constant }) scope.variables v q refl g.0 free g.1))
 
@@ -220,8 +220,8 @@ module _ {C : Type 0} {pay : ℕ → C → C} (x : Around C pay) (h : Sound x) (
       )
 
   start_right : (s : ForStart) → RightStatement (scope_start x.scene result s) (run_start C pay (setting x) s)
-  start_right (start.Declare d) = declaration_right d
-  start_right (start.Assign a) = assignment_right a
+  start_right (start.Declare d) scope w = declaration_right d scope (both (not d.is_constant) _ w).1
+  start_right (start.Assign a) scope w = assignment_right a scope w
 
   item_right : (i : PrintItem) (scope : Variables) (p : Pixel C pay) → (item_type x.scene result scope i).well ≡ true → Stand x scope p.env → Good (λ end q. Stand x scope q.env) (run_item C pay (setting x) i p)
   item_right (item.Text text) scope p w st = st
@@ -280,10 +280,12 @@ module _ {C : Type 0} {pay : ℕ → C → C} (x : Around C pay) (h : Sound x) (
   statement_right (Declare d) scope w = let r = declaration_right d scope w in (r.0, λ p st. visit _ _ _ (run_declaration C pay (setting x) d) p (r.1 p st))
   statement_right (Assign a) scope w = let r = assignment_right a scope w in (r.0, λ p st. visit _ _ _ (run_assignment C pay (setting x) a) p (r.1 p st))
   statement_right (Call c) scope w = (under_same scope.variables, λ p st. visit scope.variables false scope.variables (λ p. go_on C pay (run_call C pay (setting x) c p) (λ v. give C pay Normal)) p (good_then (Be x h scope.variables (whole_type x h scope.variables (call_form_type x.scene scope.variables c))) (Ends scope.variables false scope.variables) (run_call C pay (setting x) c p) _ (call_form_well x h scope.variables c p st w) (λ v q g. (refl, g.0))))
-  statement_right (If arms None) scope w =
+  statement_right (If arms None) scope u =
+      let w = (both (nat_lt 0 (length (map (λ (e : Pair RightArm). e.0) arms))) _ u).1 in
       let r = opened (scope_arms (map (λ (e : Pair RightArm). e.0) arms) (simple true 0)) (arms_run C pay (map (λ (e : Pair RightArm). e.1) arms) (give C pay Normal)) (arms_right arms (simple true 0, give C pay Normal, nothing_right)) scope w in
       (r.0, λ p st. visit _ _ _ (arms_run C pay (map (λ (e : Pair RightArm). e.1) arms) (give C pay Normal)) p (r.1 p st))
-  statement_right (If arms (Some b)) scope w =
+  statement_right (If arms (Some b)) scope u =
+      let w = (both (nat_lt 0 (length (map (λ (e : Pair RightArm). e.0) arms))) _ u).1 in
       let r = opened (scope_arms (map (λ (e : Pair RightArm). e.0) arms) (own_scope b.0)) (arms_run C pay (map (λ (e : Pair RightArm). e.1) arms) b.1) (arms_right arms (own_scope b.0, b.1, closed_right b)) scope w in
       (r.0, λ p st. visit _ _ _ (arms_run C pay (map (λ (e : Pair RightArm). e.1) arms) b.1) p (r.1 p st))
   statement_right (While test body node) scope w =
@@ -299,7 +301,7 @@ module _ {C : Type 0} {pay : ℕ → C → C} (x : Around C pay) (h : Sound x) (
       let r = opened (own_scope (scope_all (scopings all))) (sequence_of all) (closed_right (scope_all (scopings all), sequence_of all, sequence_right all)) scope w in
       (r.0, λ p st. visit scope.variables (scope_all (scopings all) scope).returns scope.variables (sequence_of all) p (r.1 p st))
   statement_right (Return o) scope w = (under_same scope.variables, λ p st. visit scope.variables true scope.variables (λ p. go_on C pay (left_value C pay (setting x) o p) (leave C pay)) p (good_then (Be x h scope.variables result_shape) (Ends scope.variables true scope.variables) (left_value C pay (setting x) o p) (leave C pay) (left_right scope.variables o p st w) (λ v q g. g)))
-  statement_right (Print items) scope w = let r = items_right items scope w in (r.0, λ p st. visit _ _ _ (run_items C pay (setting x) items) p (r.1 p st))
+  statement_right (Print items) scope w = let r = items_right items scope (both (nat_lt 0 (length items)) _ w).1 in (r.0, λ p st. visit _ _ _ (run_items C pay (setting x) items) p (r.1 p st))
 
   pub statement_well : (e : TypedStatement) → RightStatement (scope_statement x.scene result e) (run_statement C pay (setting x) e)
   statement_well e = statement_pair RightStatement RightArm (scope_step x.scene result) (scope_arm x.scene result) (statement_step C pay (setting x)) (arm_step C pay (setting x)) statement_right arm_right e

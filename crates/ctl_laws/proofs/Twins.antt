@@ -1,5 +1,5 @@
 -- Two runs of one form, with two counts, where the second has some turns more.
-use Rattle.std.proofs.Common.{◌≡◌, ℕ, zero, suc, ℤ, pos, ◌+◌, ◌<◌, ◌≤◌, List, [], ◌∷◌, ◌++◌, map, replicate, length, sum_by, Option, Some, None, Ok, Err, Result, Bool, true, false, not, ◌&&◌, if◌then◌else◌, nat_lt, int_lt, unsigned_abs, inl, inr, refl, sym, ap, subst, ◌∙◌, arith, slice_get, slice_set}
+use Rattle.std.proofs.Common.{◌≡◌, ℕ, zero, suc, ℤ, pos, ◌+◌, ◌^◌, ◌<◌, ◌≤◌, List, [], ◌∷◌, ◌++◌, map, replicate, length, sum_by, Option, Some, None, Ok, Err, Result, Bool, true, false, not, ◌&&◌, if◌then◌else◌, nat_lt, int_lt, unsigned_abs, inl, inr, refl, sym, ap, subst, ◌∙◌, arith, slice_get, slice_set}
 use Rattle.std.specs.Prelude.{◌⊎◌}
 use Rattle.fix_num.specs.declared.TheConstants.{FRACTION}
 use Rattle.fix_num.specs.Whole.{truth}
@@ -43,7 +43,7 @@ use Rattle.ctl_types.specs.Shapes.{size_in}
 use Rattle.ctl_types.specs.Values.{Env, one, list, fields, nothing, part_of, var_of, stored, fits, alike, scalars, takes}
 use Rattle.ctl_types.specs.Definitions.{Defined, constant_values}
 use Rattle.ctl_types.specs.Library.{LibraryAnswer, Unfit, Refused, Given, library_answer}
-use Rattle.ctl_types.specs.Run.{Fault, Trapped, Wrong, End, Normal, Left, Target, Passed, given, scalars_in, decider, whole_result, first_frame, first_scalars, outputs_of, Pixel, Outcome, Run, go_on, give, held, paid, visited, evaluated, listed, word_in, word, give_scalar, convert, chosen, operated, index_number, checked, index_in, field_in, StepRun, index_run, stepped, steps_run, found, path_run, PlaceRun, Came, FunctionRun, Called, Setting, ArgumentRun, put_back, brought, came_to, call_with, called, library_came, library_run, callee_of, LinkRun, linked, decided, pass_value, pass_output, argument_step, step_step, operand_step, link_step, place_step, replaced, store, assigned, leave, unless_left, sequence, ArmRun, arms_run, take_turn, rounds, loop_run, call_step, expr_step, run_fold, run_expr, run_operand, run_call, run_place, initialiser_step, run_initialiser, first_value, declared, run_declaration, run_assignment, run_start, run_item, run_items, left_value, arm_step, statement_step, run_statement, fallen, end_of, ended, parameter_shapes, called_of, meanings, Ended, ended_with, entry_came, run_of, entry_frame, entry_of}
+use Rattle.ctl_types.specs.Run.{Fault, Trapped, Wrong, End, Normal, Left, Target, Passed, given, scalars_in, decider, whole_result, first_frame, first_scalars, outputs_of, Pixel, Outcome, Run, go_on, give, held, paid, visited, evaluated, listed, word_in, word, give_scalar, convert, chosen, sized, operated, index_number, checked, index_in, field_in, StepRun, index_run, stepped, steps_run, found, path_run, PlaceRun, Came, FunctionRun, Called, Setting, ArgumentRun, put_back, brought, came_to, call_with, called, library_came, library_run, callee_of, LinkRun, linked, decided, pass_value, pass_output, argument_step, step_step, operand_step, link_step, place_step, replaced, store, assigned, leave, unless_left, sequence, ArmRun, arms_run, take_turn, rounds, loop_run, call_step, expr_step, run_fold, run_expr, run_operand, run_call, run_place, initialiser_step, run_initialiser, first_value, declared, run_declaration, run_assignment, run_start, run_item, run_items, left_value, arm_step, statement_step, run_statement, fallen, end_of, ended, parameter_shapes, called_of, meanings, Ended, ended_with, entry_came, run_of, entry_frame, entry_of}
 use Rattle.ctl_types.specs.Pairs.{Pair, KeepsExprs, KeepsInitialiser, KeepsStatement, KeepsArm, expr_pair, operand_pair, call_pair, place_pair, initialiser_pair, statement_pair}
 
 module _ (C : Type 0) (pay : ℕ → C → C) (D : Type 0) (pad : ℕ → D → D) (R : C → D → Type 0) (keep : (n : ℕ) (c : C) (d : D) → R c d → R (pay n c) (pad n d)) (extra : ℕ) where
@@ -124,6 +124,9 @@ module _ (C : Type 0) (pay : ℕ → C → C) (D : Type 0) (pad : ℕ → D → 
 
   follow_chosen : {V : Type 0} (a : Run C pay V) (a' : Run D pad V) (b : Run C pay V) (b' : Run D pad V) (v : Value) → Follows a a' → Follows b b' → Follows (chosen C pay a b v) (chosen D pad a' b' v)
   follow_chosen a a' b b' v f g = follow_word kind.Bool (λ z. if truth z then a else b) (λ z. if truth z then a' else b') v (λ z. follow_if (truth z) a a' b b' f g)
+
+  follow_sized : (n : ℕ) → Follows (sized C pay n) (sized D pad n)
+  follow_sized n p s k = alike_if p.turns (nat_lt n (2 ^ 31)) (give C pay (one (scalar_form.Int (pos n))) p) (give D pad (one (scalar_form.Int (pos n))) (later p s)) (Err Wrong) (Err Wrong) (follow_give (one (scalar_form.Int (pos n))) p s k) refl
 
   follow_operated : (op : LinkOperator) (k : ScalarKind) (v u : Value) → Follows (operated C pay op k v u) (operated D pad op k v u)
   follow_operated op k v u = follow_word k _ _ v (λ a. follow_word k _ _ u (λ b. follow_scalar (operator_kind op k) (operate FRACTION op k a b)))
@@ -313,7 +316,7 @@ module _ (C : Type 0) (pay : ℕ → C → C) (D : Type 0) (pad : ℕ → D → 
         let r = steps_run C pay (map (λ (e : Steps). e.0) ss) in
         let r' = steps_run D pad (map (λ (e : Steps). e.1) ss) in
         follow_then e.0 e.1 r r' e.2 (λ v. follow_steps ss v)
-    expr_follows (form.Size e size) = follow_evaluated (λ p. go_on C pay (e.0 p) (λ v. give C pay (one (scalar_form.Int (pos (size_in opens size)))))) (λ p. go_on D pad (e.1 p) (λ v. give D pad (one (scalar_form.Int (pos (size_in opens size)))))) (follow_then e.0 e.1 (λ v. give C pay (one (scalar_form.Int (pos (size_in opens size))))) (λ v. give D pad (one (scalar_form.Int (pos (size_in opens size))))) e.2 (λ v. follow_give (one (scalar_form.Int (pos (size_in opens size))))))
+    expr_follows (form.Size e size) = follow_evaluated (λ p. go_on C pay (e.0 p) (λ v. sized C pay (size_in opens size))) (λ p. go_on D pad (e.1 p) (λ v. sized D pad (size_in opens size))) (follow_then e.0 e.1 (λ v. sized C pay (size_in opens size)) (λ v. sized D pad (size_in opens size)) e.2 (λ v. follow_sized (size_in opens size)))
     expr_follows (form.Call c) = c.2
 
     operand_follows : (y : form.Operand-F Args (Twins Value) Steps (Twins Value) (Twins Value) (Pair FollowsLink) (Pair FollowsPlace)) → Follows (operand_step C pay (map-Operand Args (Twins Value) Steps (Twins Value) (Twins Value) (Pair FollowsLink) (Pair FollowsPlace) (ArgumentRun C pay) (Run C pay Value) (StepRun C pay) (Run C pay Value) (Run C pay Value) (LinkRun C pay) (PlaceRun C pay) (λ e. e.0) (λ e. e.0) (λ e. e.0) (λ e. e.0) (λ e. e.0) (λ e. e.0) (λ e. e.0) y)) (operand_step D pad (map-Operand Args (Twins Value) Steps (Twins Value) (Twins Value) (Pair FollowsLink) (Pair FollowsPlace) (ArgumentRun D pad) (Run D pad Value) (StepRun D pad) (Run D pad Value) (Run D pad Value) (LinkRun D pad) (PlaceRun D pad) (λ e. e.1) (λ e. e.1) (λ e. e.1) (λ e. e.1) (λ e. e.1) (λ e. e.1) (λ e. e.1) y))

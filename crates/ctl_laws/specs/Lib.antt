@@ -1,2 +1,3 @@
+pub mod Indices
 pub mod Sound
 pub mod Turns

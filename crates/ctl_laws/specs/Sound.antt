@@ -1,10 +1,5 @@
 -- What is well typed is never wrong.
-use Rattle.std.specs.Prelude.{take, length, suc, ◌≡◌, ℕ, ◌+◌, ◌≤◌, List, [], ◌∷◌, map, Option, Some, None, is_some, Result, Ok, Err, Bool, true, false, ◌&&◌, ◌||◌, ◌==◌, if◌then◌else◌, slice_get}
-use Rattle.std.specs.Prelude.{All, ℤ}
-use Rattle.fix_num.specs.declared.TheConstants.{FRACTION}
-use Rattle.fix_num.specs.Fixed.{IsRaw}
-use Rattle.ctl_stdlib.specs.declared.row.LibraryId.{LibraryId}
-use Rattle.ctl_stdlib.specs.Rows.{row}
+use Rattle.std.specs.Prelude.{take, length, suc, ◌≡◌, ℕ, ◌≤◌, List, [], ◌∷◌, map, Option, Some, None, is_some, Result, Ok, Err, Bool, true, false, ◌&&◌, ◌||◌, ◌==◌, if◌then◌else◌, slice_get}
 use Rattle.ctl_base.specs.declared.limits.TheConstants.{SCALARS, CALL_DEPTH}
 use Rattle.ctl_types.specs.declared.shape.Base.{Base}
 use Rattle.ctl_types.specs.declared.value.Value.{Value}
@@ -42,12 +37,6 @@ Stands structs opens [] [] = Unit {0}
 Stands structs opens [] (v ∷ env) = ⊥
 Stands structs opens (h ∷ scope) [] = ⊥
 Stands structs opens (h ∷ scope) (v ∷ env) = Holds structs opens h v × Stands structs opens scope env
-
--- ---- the library
-
--- what a function of the library gives for raws are raws
-abbrev pub RawsComeOut : Type 0
-RawsComeOut = (id : LibraryId) (sizes : List ℕ) (table args : List ℤ) → All IsRaw table → All IsRaw args → All IsRaw ((row id).value FRACTION sizes table args)
 
 -- ---- entries
 
@@ -116,10 +105,3 @@ module _ (C : Type 0) (pay : ℕ → C → C) where
 -- a value of an array's shape has as many elements as its static size says
 abbrev pub SizeIsLength : Type 0
 SizeIsLength = (structs : List StructForm) (opens : List ℕ) (size : Size) (sizes : List Size) (base : Option Base) (v : Value) → first_is size sizes ≡ true → Fits structs (whole opens sizes base) v → (vs : List Value) × (v ≡ list vs) × (length vs ≡ size_in opens size)
-
--- what counts nothing, and what counts in whole numbers
-abbrev pub uncounted : ℕ → Unit {0} → Unit {0}
-uncounted n spent = tt
-
-abbrev pub counted : ℕ → ℕ → ℕ
-counted n spent = spent + n

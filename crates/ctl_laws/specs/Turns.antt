@@ -4,7 +4,7 @@ use Rattle.ctl_base.specs.declared.kind.TrapKind.TheVariants as trap
 use Rattle.ctl_types.specs.declared.value.Value.{Value}
 use Rattle.ctl_types.specs.Definitions.{Defined}
 use Rattle.ctl_types.specs.Run.{Fault, Trapped, Wrong, Ended, call_run}
-use Rattle.ctl_laws.specs.Sound.{uncounted, counted}
+use Rattle.ctl_types.specs.Cost.{uncounted, counted, plain_run}
 
 -- what a run gives without its count
 abbrev pub forgotten : Result (Ended ℕ counted) Fault → Result (Ended (Unit {0}) uncounted) Fault
@@ -13,7 +13,7 @@ forgotten (Err fault) = Err fault
 
 -- the count changes nothing
 abbrev pub CountChangesNothing : Type 0
-CountChangesNothing = (d : Defined) (entry : ℕ) (inputs : List Value) (turns spent : ℕ) → forgotten (call_run ℕ counted d entry inputs turns spent) ≡ call_run (Unit {0}) uncounted d entry inputs turns tt
+CountChangesNothing = (d : Defined) (entry : ℕ) (inputs : List Value) (turns spent : ℕ) → forgotten (call_run ℕ counted d entry inputs turns spent) ≡ plain_run d entry inputs turns
 
 -- no more turns are left than there were
 abbrev pub NoMoreTurns : ℕ → Result (Ended ℕ counted) Fault → Type 0

@@ -1,16 +1,16 @@
 use Rattle.std.proofs.Common.{ℕ}
-use Rattle.ctl_laws.specs.Sound.{uncounted, counted}
+use Rattle.ctl_types.specs.Cost.{uncounted, counted}
 use Rattle.ctl_laws.proofs.Ranges.{numbers_of}
 use Rattle.ctl_laws.proofs.Library.{library_serves}
 use Rattle.ctl_laws.proofs.Programs.{expressions_give_well}
 use Rattle.ctl_laws.proofs.sound.expressions_are_sound.Goals as goal
 
 pub returns-clause-plain : goal.returns-clause-plain
-returns-clause-plain c = λ raws.
+returns-clause-plain c =
     let n = numbers_of c.arithmetic_stays_in_range.ensures c.halves_stay_in_range.ensures c.wholes_stay_in_range.ensures c.half_keeps.ensures in
-    expressions_give_well (Unit {0}) uncounted n c.words_are_counted.ensures (library_serves n raws c.halves_come_out.ensures)
+    expressions_give_well (Unit {0}) uncounted n c.words_are_counted.ensures (library_serves n c.raws_come_out.ensures c.halves_come_out.ensures)
 
 pub returns-clause-counted : goal.returns-clause-counted
-returns-clause-counted c = λ raws.
+returns-clause-counted c =
     let n = numbers_of c.arithmetic_stays_in_range.ensures c.halves_stay_in_range.ensures c.wholes_stay_in_range.ensures c.half_keeps.ensures in
-    expressions_give_well ℕ counted n c.words_are_counted.ensures (library_serves n raws c.halves_come_out.ensures)
+    expressions_give_well ℕ counted n c.words_are_counted.ensures (library_serves n c.raws_come_out.ensures c.halves_come_out.ensures)

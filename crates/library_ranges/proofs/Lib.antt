@@ -1,0 +1,6 @@
+mod Angles
+mod Powers
+mod Rows
+mod Tables
+mod Vectors
+mod Words
