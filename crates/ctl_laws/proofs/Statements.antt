@@ -1,5 +1,5 @@
 -- A well typed statement is never wrong, and the variables keep their shapes.
-use Rattle.std.proofs.Common.{◌≡◌, ℕ, zero, suc, List, [], ◌∷◌, map, Option, Some, None, Err, Bool, true, false, not, ◌&&◌, ◌||◌, is_some, refl, sym, subst, ◌∙◌, arith, slice_get, slice_set, nat_lt, length}
+use Rattle.std.proofs.Common.{◌≡◌, ℕ, zero, suc, List, [], ◌∷◌, map, Option, Some, None, Err, Bool, true, false, not, ◌&&◌, ◌||◌, ◌==◌, is_some, refl, sym, subst, ◌∙◌, arith, slice_get, slice_set, nat_lt, length}
 use Rattle.ctl_base.specs.declared.kind.Node.{Node}
 use Rattle.ctl_base.specs.declared.kind.ScalarKind.TheVariants as kind
 use Rattle.ctl_types.specs.declared.shape.Base.TheVariants.{Scalar}

@@ -1,5 +1,5 @@
 -- What is well typed is never wrong.
-use Rattle.std.specs.Prelude.{take, length, suc, ◌≡◌, ℕ, ◌≤◌, List, [], ◌∷◌, map, Option, Some, None, is_some, Result, Ok, Err, Bool, true, false, ◌&&◌, ◌||◌, ◌==◌, if◌then◌else◌, slice_get}
+use Rattle.std.specs.Prelude.{take, length, suc, ◌≡◌, ℕ, ◌+◌, ◌≤◌, List, [], ◌∷◌, map, Option, Some, None, is_some, Result, Ok, Err, Bool, true, false, ◌&&◌, ◌||◌, ◌==◌, if◌then◌else◌, slice_get}
 use Rattle.ctl_base.specs.declared.limits.TheConstants.{SCALARS, CALL_DEPTH}
 use Rattle.ctl_types.specs.declared.shape.Base.{Base}
 use Rattle.ctl_types.specs.declared.value.Value.{Value}

@@ -2,7 +2,8 @@
 
 ghost use Rattle.std.specs.Prelude.{◌≡◌, true, IfOk, IfErr};
 ghost use Rattle.ctl_types.specs.Definitions.{point, chromaticities, constant_of, library_constants};
-ghost use Rattle.ctl_types.specs.Scoping.{IsDefined, library_definitions, definitions_stand, function_stands, scene_of, with_struct, with_constant, with_function};
+ghost use Rattle.ctl_types.specs.Scoping.{IsDefined, library_definitions, struct_stands, constant_stands, function_stands, scene_before, scene_of, with_struct, with_constant, with_function};
+ghost use Rattle.ctl_types.specs.Shapes.{struct_counts};
 
 use ctl_base::{ByteText, Memory, ScalarKind};
 use ctl_stdlib::LibraryConstant;
@@ -86,9 +87,9 @@ impl Definitions {
         let _units = &self.units;
     }
 
-    /// Defines a struct. Definitions that have no room for it stay as they were.
+    /// Defines a struct that stands after those before it. Definitions that have no room for it stay as they were.
     pub fn push_struct(&mut self, definition: Struct) -> Result<(), Memory>
-        requires { definitions_stand (with_struct self.old definition) ≡ true }
+        requires { struct_stands self.old.structs (struct_counts self.old.structs) definition ≡ true }
         ensures last { IfOk result (λ _. self.new ≡ with_struct self.old definition) }
         ensures kept { IfErr result (λ _. self.new ≡ self.old) }
     {
@@ -96,9 +97,9 @@ impl Definitions {
         Ok(())
     }
 
-    /// Defines a constant. Definitions that have no room for it stay as they were.
+    /// Defines a constant whose value is of its shape. Definitions that have no room for it stay as they were.
     pub fn push_constant(&mut self, constant: Constant) -> Result<(), Memory>
-        requires { definitions_stand (with_constant self.old constant) ≡ true }
+        requires { constant_stands (scene_before self.old) constant ≡ true }
         ensures last { IfOk result (λ _. self.new ≡ with_constant self.old constant) }
         ensures kept { IfErr result (λ _. self.new ≡ self.old) }
     {

@@ -21,9 +21,9 @@ use Rattle.ctl_types.specs.declared.expression.TypedLink.{TypedLink, roll-TypedL
 use Rattle.ctl_types.specs.declared.expression.TypedPlace.{TypedPlace, roll-TypedPlace}
 use Rattle.ctl_types.specs.declared.expression.Argument.TheOpen.{Argument-F, TypedExpr-F, TypedStep-F, Operand-F, TypedCall-F, TypedLink-F, TypedPlace-F}
 use Rattle.ctl_types.specs.declared.expression.Argument.TheFolds.{fold-roll-Argument, map-Argument, fold-roll-TypedExpr, map-TypedExpr, fold-roll-TypedStep, map-TypedStep, fold-roll-Operand, map-Operand, fold-roll-TypedCall, map-TypedCall, fold-roll-TypedLink, map-TypedLink, fold-roll-TypedPlace, map-TypedPlace}
-use Rattle.ctl_types.specs.Folds.{argument_fold, step_fold, link_fold}
+use Rattle.ctl_types.specs.Folds.{argument_fold, step_fold, operand_fold, link_fold}
 use Rattle.ctl_types.specs.Values.{Env, Fit, fit_step, fits, Likeness, alike_step, alike, flat_step, flat}
-use Rattle.ctl_types.specs.Typing.{Typed, Variables, Scene, Passing, PlaceType, type_fold, type_argument, type_form, type_step, type_operand, type_call, type_link, type_place, expr_type, operand_type, call_form_type, place_type, type_initialiser, initialiser_type}
+use Rattle.ctl_types.specs.Typing.{Typed, OperandType, Variables, Scene, Passing, PlaceType, type_fold, type_argument, type_form, type_step, type_operand, type_call, type_link, type_place, expr_type, call_form_type, place_type, type_initialiser, initialiser_type}
 use Rattle.ctl_types.specs.Scoping.{Scope, Scoping, scope_step, scope_arm, scope_statement}
 use Rattle.ctl_types.specs.Run.{Pixel, End, ArgumentRun, Run, ArmRun, StepRun, LinkRun, PlaceRun, Setting, run_fold, argument_step, expr_step, step_step, operand_step, call_step, link_step, place_step, run_expr, run_operand, run_call, run_place, initialiser_step, run_initialiser, statement_step, arm_step, run_statement}
 
@@ -67,29 +67,32 @@ module _ (s : Scene) (scope : Variables) where
   abbrev pub step_typed : TypedStep → Typed → Typed
   step_typed = step_fold (type_fold s scope)
 
+  abbrev pub operand_typed : Operand → OperandType
+  operand_typed = operand_fold (type_fold s scope)
+
   abbrev pub link_typed : TypedLink → Typed → Typed
   link_typed = link_fold (type_fold s scope)
 
-  pub argument_types : (x : Argument-F Argument TypedExpr TypedStep Operand TypedCall TypedLink TypedPlace) → argument_typed (roll-Argument x) ≡ type_argument s scope (map-Argument Argument TypedExpr TypedStep Operand TypedCall TypedLink TypedPlace Passing Typed (Typed → Typed) Typed Typed (Typed → Typed) PlaceType (argument_typed) (expr_type s scope) (step_typed) (operand_type s scope) (call_form_type s scope) (link_typed) (place_type s scope) x)
-  argument_types x = fold-roll-Argument Passing Typed (Typed → Typed) Typed Typed (Typed → Typed) PlaceType (type_fold s scope).argument (type_fold s scope).expr (type_fold s scope).step (type_fold s scope).operand (type_fold s scope).call (type_fold s scope).link (type_fold s scope).place x
+  pub argument_types : (x : Argument-F Argument TypedExpr TypedStep Operand TypedCall TypedLink TypedPlace) → argument_typed (roll-Argument x) ≡ type_argument s scope (map-Argument Argument TypedExpr TypedStep Operand TypedCall TypedLink TypedPlace Passing Typed (Typed → Typed) OperandType Typed (Typed → Typed) PlaceType (argument_typed) (expr_type s scope) (step_typed) (operand_typed) (call_form_type s scope) (link_typed) (place_type s scope) x)
+  argument_types x = fold-roll-Argument Passing Typed (Typed → Typed) OperandType Typed (Typed → Typed) PlaceType (type_fold s scope).argument (type_fold s scope).expr (type_fold s scope).step (type_fold s scope).operand (type_fold s scope).call (type_fold s scope).link (type_fold s scope).place x
 
-  pub expr_types : (x : TypedExpr-F Argument TypedExpr TypedStep Operand TypedCall TypedLink TypedPlace) → expr_type s scope (roll-TypedExpr x) ≡ type_form s scope (map-TypedExpr Argument TypedExpr TypedStep Operand TypedCall TypedLink TypedPlace Passing Typed (Typed → Typed) Typed Typed (Typed → Typed) PlaceType (argument_typed) (expr_type s scope) (step_typed) (operand_type s scope) (call_form_type s scope) (link_typed) (place_type s scope) x)
-  expr_types x = fold-roll-TypedExpr Passing Typed (Typed → Typed) Typed Typed (Typed → Typed) PlaceType (type_fold s scope).argument (type_fold s scope).expr (type_fold s scope).step (type_fold s scope).operand (type_fold s scope).call (type_fold s scope).link (type_fold s scope).place x
+  pub expr_types : (x : TypedExpr-F Argument TypedExpr TypedStep Operand TypedCall TypedLink TypedPlace) → expr_type s scope (roll-TypedExpr x) ≡ type_form s scope (map-TypedExpr Argument TypedExpr TypedStep Operand TypedCall TypedLink TypedPlace Passing Typed (Typed → Typed) OperandType Typed (Typed → Typed) PlaceType (argument_typed) (expr_type s scope) (step_typed) (operand_typed) (call_form_type s scope) (link_typed) (place_type s scope) x)
+  expr_types x = fold-roll-TypedExpr Passing Typed (Typed → Typed) OperandType Typed (Typed → Typed) PlaceType (type_fold s scope).argument (type_fold s scope).expr (type_fold s scope).step (type_fold s scope).operand (type_fold s scope).call (type_fold s scope).link (type_fold s scope).place x
 
-  pub step_types : (x : TypedStep-F Argument TypedExpr TypedStep Operand TypedCall TypedLink TypedPlace) (t : Typed) → step_typed (roll-TypedStep x) t ≡ type_step s scope (map-TypedStep Argument TypedExpr TypedStep Operand TypedCall TypedLink TypedPlace Passing Typed (Typed → Typed) Typed Typed (Typed → Typed) PlaceType (argument_typed) (expr_type s scope) (step_typed) (operand_type s scope) (call_form_type s scope) (link_typed) (place_type s scope) x) t
-  step_types x t = ap (λ (r : Typed → Typed). r t) (fold-roll-TypedStep Passing Typed (Typed → Typed) Typed Typed (Typed → Typed) PlaceType (type_fold s scope).argument (type_fold s scope).expr (type_fold s scope).step (type_fold s scope).operand (type_fold s scope).call (type_fold s scope).link (type_fold s scope).place x)
+  pub step_types : (x : TypedStep-F Argument TypedExpr TypedStep Operand TypedCall TypedLink TypedPlace) (t : Typed) → step_typed (roll-TypedStep x) t ≡ type_step s scope (map-TypedStep Argument TypedExpr TypedStep Operand TypedCall TypedLink TypedPlace Passing Typed (Typed → Typed) OperandType Typed (Typed → Typed) PlaceType (argument_typed) (expr_type s scope) (step_typed) (operand_typed) (call_form_type s scope) (link_typed) (place_type s scope) x) t
+  step_types x t = ap (λ (r : Typed → Typed). r t) (fold-roll-TypedStep Passing Typed (Typed → Typed) OperandType Typed (Typed → Typed) PlaceType (type_fold s scope).argument (type_fold s scope).expr (type_fold s scope).step (type_fold s scope).operand (type_fold s scope).call (type_fold s scope).link (type_fold s scope).place x)
 
-  pub operand_types : (x : Operand-F Argument TypedExpr TypedStep Operand TypedCall TypedLink TypedPlace) → operand_type s scope (roll-Operand x) ≡ type_operand s scope (map-Operand Argument TypedExpr TypedStep Operand TypedCall TypedLink TypedPlace Passing Typed (Typed → Typed) Typed Typed (Typed → Typed) PlaceType (argument_typed) (expr_type s scope) (step_typed) (operand_type s scope) (call_form_type s scope) (link_typed) (place_type s scope) x)
-  operand_types x = fold-roll-Operand Passing Typed (Typed → Typed) Typed Typed (Typed → Typed) PlaceType (type_fold s scope).argument (type_fold s scope).expr (type_fold s scope).step (type_fold s scope).operand (type_fold s scope).call (type_fold s scope).link (type_fold s scope).place x
+  pub operand_types : (x : Operand-F Argument TypedExpr TypedStep Operand TypedCall TypedLink TypedPlace) → operand_typed (roll-Operand x) ≡ type_operand s scope (map-Operand Argument TypedExpr TypedStep Operand TypedCall TypedLink TypedPlace Passing Typed (Typed → Typed) OperandType Typed (Typed → Typed) PlaceType (argument_typed) (expr_type s scope) (step_typed) (operand_typed) (call_form_type s scope) (link_typed) (place_type s scope) x)
+  operand_types x = fold-roll-Operand Passing Typed (Typed → Typed) OperandType Typed (Typed → Typed) PlaceType (type_fold s scope).argument (type_fold s scope).expr (type_fold s scope).step (type_fold s scope).operand (type_fold s scope).call (type_fold s scope).link (type_fold s scope).place x
 
-  pub call_types : (x : TypedCall-F Argument TypedExpr TypedStep Operand TypedCall TypedLink TypedPlace) → call_form_type s scope (roll-TypedCall x) ≡ type_call s scope (map-TypedCall Argument TypedExpr TypedStep Operand TypedCall TypedLink TypedPlace Passing Typed (Typed → Typed) Typed Typed (Typed → Typed) PlaceType (argument_typed) (expr_type s scope) (step_typed) (operand_type s scope) (call_form_type s scope) (link_typed) (place_type s scope) x)
-  call_types x = fold-roll-TypedCall Passing Typed (Typed → Typed) Typed Typed (Typed → Typed) PlaceType (type_fold s scope).argument (type_fold s scope).expr (type_fold s scope).step (type_fold s scope).operand (type_fold s scope).call (type_fold s scope).link (type_fold s scope).place x
+  pub call_types : (x : TypedCall-F Argument TypedExpr TypedStep Operand TypedCall TypedLink TypedPlace) → call_form_type s scope (roll-TypedCall x) ≡ type_call s scope (map-TypedCall Argument TypedExpr TypedStep Operand TypedCall TypedLink TypedPlace Passing Typed (Typed → Typed) OperandType Typed (Typed → Typed) PlaceType (argument_typed) (expr_type s scope) (step_typed) (operand_typed) (call_form_type s scope) (link_typed) (place_type s scope) x)
+  call_types x = fold-roll-TypedCall Passing Typed (Typed → Typed) OperandType Typed (Typed → Typed) PlaceType (type_fold s scope).argument (type_fold s scope).expr (type_fold s scope).step (type_fold s scope).operand (type_fold s scope).call (type_fold s scope).link (type_fold s scope).place x
 
-  pub link_types : (x : TypedLink-F Argument TypedExpr TypedStep Operand TypedCall TypedLink TypedPlace) (t : Typed) → link_typed (roll-TypedLink x) t ≡ type_link s scope (map-TypedLink Argument TypedExpr TypedStep Operand TypedCall TypedLink TypedPlace Passing Typed (Typed → Typed) Typed Typed (Typed → Typed) PlaceType (argument_typed) (expr_type s scope) (step_typed) (operand_type s scope) (call_form_type s scope) (link_typed) (place_type s scope) x) t
-  link_types x t = ap (λ (r : Typed → Typed). r t) (fold-roll-TypedLink Passing Typed (Typed → Typed) Typed Typed (Typed → Typed) PlaceType (type_fold s scope).argument (type_fold s scope).expr (type_fold s scope).step (type_fold s scope).operand (type_fold s scope).call (type_fold s scope).link (type_fold s scope).place x)
+  pub link_types : (x : TypedLink-F Argument TypedExpr TypedStep Operand TypedCall TypedLink TypedPlace) (t : Typed) → link_typed (roll-TypedLink x) t ≡ type_link s scope (map-TypedLink Argument TypedExpr TypedStep Operand TypedCall TypedLink TypedPlace Passing Typed (Typed → Typed) OperandType Typed (Typed → Typed) PlaceType (argument_typed) (expr_type s scope) (step_typed) (operand_typed) (call_form_type s scope) (link_typed) (place_type s scope) x) t
+  link_types x t = ap (λ (r : Typed → Typed). r t) (fold-roll-TypedLink Passing Typed (Typed → Typed) OperandType Typed (Typed → Typed) PlaceType (type_fold s scope).argument (type_fold s scope).expr (type_fold s scope).step (type_fold s scope).operand (type_fold s scope).call (type_fold s scope).link (type_fold s scope).place x)
 
-  pub place_types : (x : TypedPlace-F Argument TypedExpr TypedStep Operand TypedCall TypedLink TypedPlace) → place_type s scope (roll-TypedPlace x) ≡ type_place s scope (map-TypedPlace Argument TypedExpr TypedStep Operand TypedCall TypedLink TypedPlace Passing Typed (Typed → Typed) Typed Typed (Typed → Typed) PlaceType (argument_typed) (expr_type s scope) (step_typed) (operand_type s scope) (call_form_type s scope) (link_typed) (place_type s scope) x)
-  place_types x = fold-roll-TypedPlace Passing Typed (Typed → Typed) Typed Typed (Typed → Typed) PlaceType (type_fold s scope).argument (type_fold s scope).expr (type_fold s scope).step (type_fold s scope).operand (type_fold s scope).call (type_fold s scope).link (type_fold s scope).place x
+  pub place_types : (x : TypedPlace-F Argument TypedExpr TypedStep Operand TypedCall TypedLink TypedPlace) → place_type s scope (roll-TypedPlace x) ≡ type_place s scope (map-TypedPlace Argument TypedExpr TypedStep Operand TypedCall TypedLink TypedPlace Passing Typed (Typed → Typed) OperandType Typed (Typed → Typed) PlaceType (argument_typed) (expr_type s scope) (step_typed) (operand_typed) (call_form_type s scope) (link_typed) (place_type s scope) x)
+  place_types x = fold-roll-TypedPlace Passing Typed (Typed → Typed) OperandType Typed (Typed → Typed) PlaceType (type_fold s scope).argument (type_fold s scope).expr (type_fold s scope).step (type_fold s scope).operand (type_fold s scope).call (type_fold s scope).link (type_fold s scope).place x
 
 pub fits_layer : (structs : List Struct) (x : Value-F Value) (sizes : List ℕ) (b : Option Base) → fits structs (roll-Value x) sizes b ≡ fit_step structs (map-Value Value Fit (fits structs) x) sizes b
 fits_layer structs x sizes b = ap (λ (f : Fit). f sizes b) (fold-roll-Value Fit (fit_step structs) x)

@@ -6,6 +6,7 @@ pub mod Library
 pub mod Definitions
 pub mod Folds
 pub mod Run
+pub mod Cost
 -- What a program keeps as its invariant.
 pub mod Typing
 pub mod Scoping

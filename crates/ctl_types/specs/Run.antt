@@ -3,7 +3,7 @@
 -- fault: a trap, or Wrong where a form has no meaning, as one that names a variable that is absent. A program that keeps its
 -- invariant never meets the second.
 -- C is a count of what is done, and pay adds to it; the runs do not depend on it.
-use Rattle.std.specs.Prelude.{ℕ, zero, suc, ◌+◌, ℤ, pos, List, [], ◌∷◌, ◌++◌, map, replicate, length, sum_by, Option, Some, None, Result, Ok, Err, Bool, true, false, not, ◌&&◌, if◌then◌else◌, slice_get, slice_set, nat_lt, int_lt, unsigned_abs}
+use Rattle.std.specs.Prelude.{ℕ, zero, suc, ◌+◌, ℤ, pos, List, [], ◌∷◌, ◌++◌, map, replicate, length, sum_by, Option, Some, None, Result, Ok, Err, Bool, true, false, not, ◌&&◌, if◌then◌else◌, slice_get, slice_set, nat_lt, ◌^◌, int_lt, unsigned_abs}
 use Rattle.fix_num.specs.declared.TheConstants.{FRACTION}
 use Rattle.fix_num.specs.Whole.{truth, of_bool}
 use Rattle.ctl_base.specs.declared.kind.Node.{Node}
@@ -91,16 +91,16 @@ abbrev pub scalars_in : Option Value → ℕ
 scalars_in None = 0
 scalars_in (Some v) = scalars v
 
--- the word of a scalar, and 0 of what is none
-abbrev pub word_or_zero : Value-F Value → ℤ
-word_or_zero (layer.One s) = word_of s
-word_or_zero (layer.List vs) = pos 0
-word_or_zero (layer.Fields vs) = pos 0
+-- the word that a scalar becomes in a kind, and 0 of what is none
+abbrev pub word_as : ScalarKind → Value-F Value → ℤ
+word_as k (layer.One s) = converted FRACTION (kind_of s) k (word_of s)
+word_as k (layer.List vs) = pos 0
+word_as k (layer.Fields vs) = pos 0
 
 -- a value of a parameter, converted back to the place that it came from
 abbrev pub converted_back : Conversion → Value → Value
 converted_back Same v = v
-converted_back (Between a b) v = one (scalar a (converted FRACTION b a (word_or_zero (out-Value v))))
+converted_back (Between a b) v = one (scalar a (word_as a (out-Value v)))
 
 -- the truth that decides a chain: its other operands are not evaluated
 abbrev pub decider : Logic → Bool
@@ -234,6 +234,10 @@ module _ (C : Type 0) (pay : ℕ → C → C) where
   -- the first where a bool is true, else the second
   abbrev pub chosen : {V : Type 0} → Run V → Run V → Value → Run V
   chosen a b = word kind.Bool (λ z. if truth z then a else b)
+
+  -- a size is an int
+  abbrev pub sized : ℕ → Run Value
+  sized n p = if nat_lt n (2 ^ 31) then give (one (scalar_form.Int (pos n))) p else Err Wrong
 
   -- an operator on two scalars of the kind that it works in
   abbrev pub operated : LinkOperator → ScalarKind → Value → Value → Run Value
@@ -506,7 +510,7 @@ module _ (C : Type 0) (pay : ℕ → C → C) where
     expr_step (form.Chain o links) = evaluated (λ p. go_on (o p) (linked links))
     expr_step (form.Logic l runs) = evaluated (decided (decider l) runs)
     expr_step (form.Path e steps) = λ p. go_on (e p) (steps_run steps)
-    expr_step (form.Size e size) = evaluated (λ p. go_on (e p) (λ v. give (one (scalar_form.Int (pos (size_in s.opens size))))))
+    expr_step (form.Size e size) = evaluated (λ p. go_on (e p) (λ v. sized (size_in s.opens size)))
     expr_step (form.Call c) = c
 
     -- the runs of all forms

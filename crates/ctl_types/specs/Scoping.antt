@@ -18,7 +18,8 @@ use Rattle.ctl_types.specs.declared.statement.ForStart.{ForStart}
 use Rattle.ctl_types.specs.declared.statement.ForStart.TheVariants as start
 use Rattle.ctl_types.specs.declared.statement.PrintItem.{PrintItem}
 use Rattle.ctl_types.specs.declared.statement.PrintItem.TheVariants as item
-use Rattle.ctl_types.specs.declared.statement.TypedStatement.{TypedStatement}
+use Rattle.ctl_types.specs.declared.statement.TypedStatement.{TypedStatement, out-TypedStatement}
+use Rattle.ctl_types.specs.declared.statement.Arm.{Arm}
 use Rattle.ctl_types.specs.declared.statement.TypedStatement.TheOpen.{TypedStatement-F, Arm-F, Empty, Block, Declare, Assign, Call, If, While, For, Return, Print}
 use Rattle.ctl_types.specs.declared.statement.TypedStatement.TheFolds.{fold-TypedStatement}
 use Rattle.ctl_types.specs.declared.program.Field.{Field}
@@ -33,10 +34,10 @@ use Rattle.ctl_types.specs.Typing.{Typed, has, besides, is_scalar, are_stated, s
 
 -- ---- statements
 
--- the variables that are visible, and the number of the next one: each declaration has a number of its own
+-- the variables that are visible, and the numbers of all declarations before, also of those that are not visible any more
 pub record Scope : Type 0 where
   pub variables : Variables
-  pub next : ℕ
+  pub used : List ℕ
 
 -- whether a statement is well typed, the scope after it, whether it surely returns, and the greatest depth of a function
 -- that is called in it
@@ -54,13 +55,17 @@ Scoping = Scope → Scoped
 abbrev pub simple : Bool → ℕ → Scoping
 simple well depth scope = record { well = well; after = scope; returns = false; depth = depth }
 
--- after a scope of its own the variables are those before it
+-- after a scope of its own the variables are those before it, and the numbers stay used
 abbrev pub closed : Scope → Scope → Scope
-closed before after = record { variables = before.variables; next = after.next }
+closed before after = record { variables = before.variables; used = after.used }
 
 -- a scope of its own
 abbrev pub own_scope : Scoping → Scoping
 own_scope a scope = record { well = (a scope).well; after = closed scope (a scope).after; returns = (a scope).returns; depth = (a scope).depth }
+
+-- what is well typed where this holds too
+abbrev pub asked : Bool → Scoping → Scoping
+asked b a scope = record { well = b && (a scope).well; after = (a scope).after; returns = (a scope).returns; depth = (a scope).depth }
 
 -- one after another: it returns where one of them does
 abbrev pub scope_all : List Scoping → Scoping
@@ -95,15 +100,28 @@ tested t stands a scope = record { well = (is_scalar kind.Bool t && stands) && (
 abbrev pub looped : Scoping → Scoping
 looped a scope = record { well = (a scope).well; after = (a scope).after; returns = false; depth = (a scope).depth }
 
--- a variable that is not declared
+-- a number in range, of a variable that is not visible
 abbrev pub is_free : Option (Option Variable) → Bool
 is_free None = false
 is_free (Some None) = true
 is_free (Some (Some v)) = false
 
+-- it is one of these
+abbrev pub is_among : ℕ → List ℕ → Bool
+is_among x [] = false
+is_among x (y ∷ ys) = x == y || is_among x ys
+
+-- each declaration has a number of its own, in whatever order: it is in range, no parameter's, and of no declaration before
+abbrev pub may_declare : Scope → ℕ → Bool
+may_declare scope x = is_free (slice_get scope.variables x) && not (is_among x scope.used)
+
 -- the scope after a declaration
 abbrev pub declared_in : Scope → ℕ → Variable → Scope
-declared_in scope x v = record { variables = slice_set scope.variables x (Some v); next = suc scope.next }
+declared_in scope x v = record { variables = slice_set scope.variables x (Some v); used = x ∷ scope.used }
+
+-- a constant has a first value
+abbrev pub begins_well : Declaration → Bool
+begins_well d = is_some d.first || not d.is_constant
 
 module _ (s : Scene) (result : Typed) where
   -- the first value of a variable: without an initialiser the sizes are stated
@@ -111,10 +129,10 @@ module _ (s : Scene) (result : Typed) where
   first_type scope shape None = record { well = are_stated shape.sizes; sizes = shape.sizes; base = Some shape.base; depth = 0 }
   first_type scope shape (Some i) = initialiser_type s scope i
 
-  -- a declaration has the next number, and its shape is that of its first value
+  -- a declaration has a number of its own, and its shape is that of its first value
   abbrev pub scope_declaration : Declaration → Scoping
   scope_declaration d scope = record {
-    well = (d.variable == scope.next && is_free (slice_get scope.variables d.variable)) && (shape_stands s d.shape && has (first_type scope.variables d.shape d.first) d.shape.sizes (Some d.shape.base));
+    well = (may_declare scope d.variable && begins_well d) && (shape_stands s d.shape && has (first_type scope.variables d.shape d.first) d.shape.sizes (Some d.shape.base));
     after = declared_in scope d.variable (record { shape = d.shape; is_assignable = not d.is_constant });
     returns = false;
     depth = (first_type scope.variables d.shape d.first).depth;
@@ -133,9 +151,9 @@ module _ (s : Scene) (result : Typed) where
   abbrev pub scope_assignment : Assignment → Scoping
   scope_assignment a scope = simple (assignment_type (place_type s scope.variables a.place) (operand_type s scope.variables a.value)).well (assignment_type (place_type s scope.variables a.place) (operand_type s scope.variables a.value)).depth scope
 
-  -- how a `for` begins
+  -- how a `for` begins: it declares no constant
   abbrev pub scope_start : ForStart → Scoping
-  scope_start (start.Declare d) = scope_declaration d
+  scope_start (start.Declare d) = asked (not d.is_constant) (scope_declaration d)
   scope_start (start.Assign a) = scope_assignment a
 
   -- what is printed has a value
@@ -166,18 +184,18 @@ module _ (s : Scene) (result : Typed) where
   abbrev pub scope_arm : Arm-F Scoping Scoping → Scoping
   scope_arm a scope = tested (operand_type s scope.variables a.test) true (own_scope a.body) scope
 
-  -- a statement, by its parts
+  -- a statement, by its parts: an `if` has an arm, and a `print` an item
   abbrev pub scope_step : TypedStatement-F Scoping Scoping → Scoping
   scope_step Empty scope = simple true 0 scope
   scope_step (Block all) scope = own_scope (scope_all all) scope
   scope_step (Declare d) scope = scope_declaration d scope
   scope_step (Assign a) scope = scope_assignment a scope
   scope_step (Call c) scope = simple (call_form_type s scope.variables c).well (call_form_type s scope.variables c).depth scope
-  scope_step (If arms otherwise) scope = scope_arms arms (scope_otherwise otherwise) scope
+  scope_step (If arms otherwise) scope = asked (nat_lt 0 (length arms)) (scope_arms arms (scope_otherwise otherwise)) scope
   scope_step (While test body node) scope = looped (tested (operand_type s scope.variables test) (node_stands s node) (own_scope body)) scope
   scope_step (For first test next body node) scope = scope_for (scope_start first) test (scope_assignment next) body (node_stands s node) scope
   scope_step (Return o) scope = scope_return o scope
-  scope_step (Print items) scope = scope_items items scope
+  scope_step (Print items) scope = asked (nat_lt 0 (length items)) (scope_items items) scope
 
   -- a statement
   abbrev pub scope_statement : TypedStatement → Scoping
@@ -191,7 +209,7 @@ parameter_variables = map (λ (q : Formal). Some (record { shape = q.shape; is_a
 
 -- the scope of a body, where n variables will be declared
 abbrev pub first_scope : List Formal → ℕ → Scope
-first_scope formals n = record { variables = parameter_variables formals ++ replicate n None; next = length formals }
+first_scope formals n = record { variables = parameter_variables formals ++ replicate n None; used = [] }
 
 -- a default is of its parameter's shape, and within the limits
 abbrev pub default_stands : List StructForm → Shape → Option Value → Bool
@@ -221,6 +239,19 @@ is_void (Some shape) = false
 abbrev pub inside : Scene → Function → Scene
 inside s f = record { tokens = s.tokens; structs = s.structs; counts = s.counts; constants = s.constants; functions = s.functions; too_deep = CALL_DEPTH; opens = (signature_of 0 f).opens }
 
+-- a block
+abbrev pub is_block : TypedStatement-F TypedStatement Arm → Bool
+is_block Empty = false
+is_block (Block all) = true
+is_block (Declare d) = false
+is_block (Assign a) = false
+is_block (Call c) = false
+is_block (If arms otherwise) = false
+is_block (While test body node) = false
+is_block (For first test next body node) = false
+is_block (Return o) = false
+is_block (Print items) = false
+
 -- the body of a function
 abbrev pub body_scope : Scene → Function → Scoped
 body_scope s f = scope_statement (inside s f) (result_type f.result) f.body (first_scope (signature_of 0 f).formals f.variables)
@@ -229,11 +260,11 @@ body_scope s f = scope_statement (inside s f) (result_type f.result) f.body (fir
 abbrev pub function_signature : Scene → Function → Signature
 function_signature s f = signature_of (suc (body_scope s f).depth) f
 
--- a function is well typed, with all its variables declared, and returns where it is to give a value
+-- a function is well typed, its body is a block that declares all its variables, and it returns where it is to give a value
 abbrev pub function_stands : Scene → Function → Bool
 function_stands s f =
     ((node_stands s f.node && parameters_stand (inside s f) (signature_of 0 f).formals f.parameters) && result_stands s f.result)
-    && (((body_scope s f).well && (body_scope s f).after.next == length f.parameters + f.variables) && (is_void f.result || (body_scope s f).returns))
+    && ((((body_scope s f).well && is_block (out-TypedStatement f.body)) && length (body_scope s f).after.used == f.variables) && (is_void f.result || (body_scope s f).returns))
 
 -- a scene with these functions
 abbrev pub with_functions : Scene → List Signature → Scene

@@ -1,11 +1,12 @@
 -- Which expressions, places and initialisers are well typed, and with which shapes. One fold over the typed forms.
-use Rattle.std.specs.Prelude.{ℕ, ◌+◌, ◌*◌, max, List, [], ◌∷◌, map, length, get_or, Option, Some, None, is_some, Bool, true, false, not, ◌&&◌, ◌||◌, ◌==◌, slice_get, nat_lt, nat_le, pos}
+use Rattle.std.specs.Prelude.{ℕ, ◌+◌, ◌*◌, max, List, [], ◌∷◌, map, length, get_or, Option, Some, None, is_some, Bool, true, false, not, ◌&&◌, ◌||◌, ◌==◌, if◌then◌else◌, slice_get, nat_lt, nat_le, pos}
 use Rattle.fix_num.specs.declared.TheConstants.{FRACTION}
 use Rattle.ctl_base.specs.declared.kind.Node.{Node}
 use Rattle.ctl_base.specs.declared.kind.ScalarKind.{ScalarKind}
 use Rattle.ctl_base.specs.declared.kind.ScalarKind.TheVariants as kind
 use Rattle.ctl_base.specs.declared.limits.TheConstants.{ARRAY_SIZE, SCALARS}
 use Rattle.ctl_tree.specs.declared.expression.UnaryOperator.{UnaryOperator}
+use Rattle.ctl_tree.specs.declared.expression.UnaryOperator.TheVariants.{Minus, Plus, Not, BitNot}
 use Rattle.ctl_types.specs.declared.shape.Base.{Base}
 use Rattle.ctl_types.specs.declared.shape.Base.TheVariants.{Scalar, Struct}
 use Rattle.ctl_types.specs.declared.shape.Size.{Size}
@@ -221,12 +222,69 @@ abbrev pub constant_type : Option Shape → Typed
 constant_type None = ill
 constant_type (Some shape) = local_type (local 0 shape)
 
--- a type after a conversion
+-- A type after a conversion. It is written where the kinds differ, and there alone, so a text has one typed form.
 abbrev pub as_converted : Conversion → Typed → Typed
 as_converted Same t = t
-as_converted (Between a b) t = scalar_type (is_scalar a t) b t.depth
+as_converted (Between a b) t = scalar_type (is_scalar a t && not (same_kind a b)) b t.depth
 
--- an operator works in a kind where it makes something of its words
+-- nothing is converted
+abbrev pub is_same : Conversion → Bool
+is_same Same = true
+is_same (Between a b) = false
+
+-- an operand: the type of its value, and what is done to the value where it is taken
+pub record OperandType : Type 0 where
+  pub value : Typed
+  pub conversion : Conversion
+
+-- the type with which it is taken
+abbrev pub taken : OperandType → Typed
+taken o = as_converted o.conversion o.value
+
+-- ---- the kinds of operators
+
+-- the kinds in their order
+abbrev pub rank : ScalarKind → ℕ
+rank kind.Bool = 0
+rank kind.Int = 1
+rank kind.Unsigned = 2
+rank kind.Half = 3
+rank kind.Float = 4
+
+-- the later of two kinds
+abbrev pub later : ScalarKind → ScalarKind → ScalarKind
+later a b = if nat_lt (rank a) (rank b) then b else a
+
+-- a bool counts as an int
+abbrev pub number_kind : ScalarKind → ScalarKind
+number_kind kind.Bool = kind.Int
+number_kind kind.Int = kind.Int
+number_kind kind.Unsigned = kind.Unsigned
+number_kind kind.Half = kind.Half
+number_kind kind.Float = kind.Float
+
+-- an operator between two sides works in the later of their kinds, and in int where both are bool
+abbrev pub is_kind_between : ScalarKind → Option Base → Option Base → Bool
+is_kind_between k None right = false
+is_kind_between k (Some (Struct m)) right = false
+is_kind_between k (Some (Scalar a)) None = false
+is_kind_between k (Some (Scalar a)) (Some (Struct n)) = false
+is_kind_between k (Some (Scalar a)) (Some (Scalar b)) = same_kind k (number_kind (later a b))
+
+-- an operator before its operand works in the operand's kind, a bool counting as an int; `!` works in bool
+abbrev pub kind_alone : UnaryOperator → ScalarKind → ScalarKind
+kind_alone Minus a = number_kind a
+kind_alone Plus a = number_kind a
+kind_alone Not a = kind.Bool
+kind_alone BitNot a = number_kind a
+
+-- the kind in which an operator works before an operand of this base
+abbrev pub is_kind_alone : UnaryOperator → ScalarKind → Option Base → Bool
+is_kind_alone op k None = false
+is_kind_alone op k (Some (Struct n)) = false
+is_kind_alone op k (Some (Scalar a)) = same_kind k (kind_alone op a)
+
+-- an operator can work in a kind where it makes something of its words
 abbrev pub works : LinkOperator → ScalarKind → Bool
 works op k = is_some (operate FRACTION op k (pos 0) (pos 0))
 
@@ -318,12 +376,25 @@ argument_suits sizes q (In t) = not q.is_output && has t (map (through sizes) q.
 argument_suits sizes q (Out t assignable) = q.is_output && (assignable && has t (map (through sizes) q.shape.sizes) (Some q.shape.base))
 argument_suits sizes q Absent = default_fits sizes q q.default
 
--- there is an argument for each parameter, and it suits
+-- all are missing
+abbrev pub are_absent : List Passing → Bool
+are_absent [] = true
+are_absent (In t ∷ arguments) = false
+are_absent (Out t assignable ∷ arguments) = false
+are_absent (Absent ∷ arguments) = are_absent arguments
+
+-- behind an argument that is missing all are
+abbrev pub may_precede : Passing → List Passing → Bool
+may_precede (In t) arguments = true
+may_precede (Out t assignable) arguments = true
+may_precede Absent arguments = are_absent arguments
+
+-- there is an argument for each parameter, in their order, and it suits
 abbrev pub arguments_suit : List Size → List Formal → List Passing → Bool
 arguments_suit sizes [] [] = true
 arguments_suit sizes [] (a ∷ arguments) = false
 arguments_suit sizes (q ∷ formals) [] = false
-arguments_suit sizes (q ∷ formals) (a ∷ arguments) = argument_suits sizes q a && arguments_suit sizes formals arguments
+arguments_suit sizes (q ∷ formals) (a ∷ arguments) = (argument_suits sizes q a && may_precede a arguments) && arguments_suit sizes formals arguments
 
 -- a call: of a function before, which is not too deep, with as many sizes as its parameters have open ones, and
 -- an argument for each parameter
@@ -338,9 +409,22 @@ call_type s (Some f) sizes arguments = record {
 
 -- ---- the fold
 
--- both sides are scalars of the kind in which the operator works
-abbrev pub link_type : LinkOperator → ScalarKind → Typed → Typed → Typed
-link_type op k left right = scalar_type (works op k && (is_scalar k left && is_scalar k right)) (operator_kind op k) (max left.depth right.depth)
+-- both sides are taken as scalars of the kind in which the operator works between them
+abbrev pub link_type : LinkOperator → ScalarKind → OperandType → OperandType → Typed
+link_type op k left right =
+    scalar_type ((works op k && is_kind_between k left.value.base right.value.base) && (is_scalar k (taken left) && is_scalar k (taken right))) (operator_kind op k) (max (taken left).depth (taken right).depth)
+
+-- the operand is taken as a scalar of the kind in which the operator works before it
+abbrev pub unary_type : UnaryOperator → ScalarKind → OperandType → Typed
+unary_type op k o = scalar_type ((works_alone op k && is_kind_alone op k o.value.base) && is_scalar k (taken o)) k (taken o).depth
+
+-- A chain has links. Its first operand stays as it is, since the first link says what is done to what is on its left.
+abbrev pub chain_type : OperandType → List (Typed → Typed) → Typed
+chain_type o links = besides (is_same o.conversion && nat_lt 0 (length links)) 0 (links_type links o.value)
+
+-- the operands of `&&` or `||` are taken as bools, and there are two or more
+abbrev pub logic_type : List Typed → Typed
+logic_type operands = scalar_type (nat_lt 1 (length operands) && all_scalars kind.Bool operands) kind.Bool (depth_of operands)
 
 -- a variable that may be assigned
 abbrev pub place_assignable : Option (Option Variable) → Bool
@@ -362,55 +446,55 @@ each_has (t ∷ types) (shape ∷ shapes) = has t (local 0 shape).sizes (Some (l
 
 module _ (s : Scene) (scope : Variables) where
   -- an argument
-  abbrev pub type_argument : Argument-F Passing Typed (Typed → Typed) Typed Typed (Typed → Typed) PlaceType → Passing
-  type_argument (form.Input o node) = In (besides (node_stands s node) 0 o)
+  abbrev pub type_argument : Argument-F Passing Typed (Typed → Typed) OperandType Typed (Typed → Typed) PlaceType → Passing
+  type_argument (form.Input o node) = In (besides (node_stands s node) 0 (taken o))
   type_argument (form.Output place c node) = Out (besides (node_stands s node) 0 (as_converted c place.type)) place.is_assignable
   type_argument form.Missing = Absent
 
   -- the type of a part, by that of the whole
-  abbrev pub type_step : TypedStep-F Passing Typed (Typed → Typed) Typed Typed (Typed → Typed) PlaceType → Typed → Typed
+  abbrev pub type_step : TypedStep-F Passing Typed (Typed → Typed) OperandType Typed (Typed → Typed) PlaceType → Typed → Typed
   type_step (form.Index e node) t = besides (is_index e && node_stands s node) e.depth (element_type t)
   type_step (form.Field n) t = field_type s t n
 
-  -- an operand after its conversion
-  abbrev pub type_operand : Operand-F Passing Typed (Typed → Typed) Typed Typed (Typed → Typed) PlaceType → Typed
-  type_operand o = as_converted o.conversion o.value
+  -- an operand
+  abbrev pub type_operand : Operand-F Passing Typed (Typed → Typed) OperandType Typed (Typed → Typed) PlaceType → OperandType
+  type_operand o = record { value = o.value; conversion = o.conversion }
 
   -- a call
-  abbrev pub type_call : TypedCall-F Passing Typed (Typed → Typed) Typed Typed (Typed → Typed) PlaceType → Typed
+  abbrev pub type_call : TypedCall-F Passing Typed (Typed → Typed) OperandType Typed (Typed → Typed) PlaceType → Typed
   type_call c = besides (node_stands s c.node) 0 (call_type s (signature_in s c.callee) c.sizes c.arguments)
 
   -- the type after a link, by that on its left
-  abbrev pub type_link : TypedLink-F Passing Typed (Typed → Typed) Typed Typed (Typed → Typed) PlaceType → Typed → Typed
-  type_link l t = link_type l.operator l.kind (as_converted l.left t) l.right
+  abbrev pub type_link : TypedLink-F Passing Typed (Typed → Typed) OperandType Typed (Typed → Typed) PlaceType → Typed → Typed
+  type_link l t = link_type l.operator l.kind (record { value = t; conversion = l.left }) l.right
 
   -- a place
-  abbrev pub type_place : TypedPlace-F Passing Typed (Typed → Typed) Typed Typed (Typed → Typed) PlaceType → PlaceType
+  abbrev pub type_place : TypedPlace-F Passing Typed (Typed → Typed) OperandType Typed (Typed → Typed) PlaceType → PlaceType
   type_place place = record { type = steps_type place.steps (variable_type (slice_get scope place.variable)); is_assignable = place_assignable (slice_get scope place.variable) }
 
   -- an expression, by the types of its parts
-  abbrev pub type_form : TypedExpr-F Passing Typed (Typed → Typed) Typed Typed (Typed → Typed) PlaceType → Typed
+  abbrev pub type_form : TypedExpr-F Passing Typed (Typed → Typed) OperandType Typed (Typed → Typed) PlaceType → Typed
   type_form (form.Literal x) = scalar_type (in_range FRACTION (kind_of x) (word_of x)) (kind_of x) 0
   type_form (form.Constant n) = constant_type (slice_get s.constants n)
   type_form (form.Variable x) = variable_type (slice_get scope x)
-  type_form (form.Unary op k o) = scalar_type (works_alone op k && is_scalar k o) k o.depth
-  type_form (form.Chain o links) = links_type links o
-  type_form (form.Logic l os) = scalar_type (all_scalars kind.Bool os) kind.Bool (depth_of os)
-  type_form (form.Path e steps) = steps_type steps e
+  type_form (form.Unary op k o) = unary_type op k o
+  type_form (form.Chain o links) = chain_type o links
+  type_form (form.Logic l os) = logic_type (map taken os)
+  type_form (form.Path e steps) = besides (nat_lt 0 (length steps)) 0 (steps_type steps e)
   type_form (form.Size e size) = scalar_type ((e.well && first_is size e.sizes) && size_stands s size) kind.Int e.depth
   type_form (form.Call c) = c
 
   -- the types of all forms
-  abbrev pub type_fold : ExprFold Passing Typed (Typed → Typed) Typed Typed (Typed → Typed) PlaceType
+  abbrev pub type_fold : ExprFold Passing Typed (Typed → Typed) OperandType Typed (Typed → Typed) PlaceType
   type_fold = record { argument = type_argument; expr = type_form; step = type_step; operand = type_operand; call = type_call; link = type_link; place = type_place }
 
   -- the type of an expression
   abbrev pub expr_type : TypedExpr → Typed
   expr_type = expr_fold type_fold
 
-  -- the type of an operand
+  -- the type with which an operand is taken
   abbrev pub operand_type : Operand → Typed
-  operand_type = operand_fold type_fold
+  operand_type o = taken (operand_fold type_fold o)
 
   -- the type of a call
   abbrev pub call_form_type : TypedCall → Typed
@@ -422,11 +506,11 @@ module _ (s : Scene) (scope : Variables) where
 
   -- ---- initialisers
 
-  -- the elements of a brace list have stated sizes, and a struct is there with all its fields
+  -- a brace list has elements, and they have stated sizes; a struct is there with all its fields
   abbrev pub type_initialiser : Initialiser-F Typed → Typed
   type_initialiser (initial.Value o) = operand_type o
   type_initialiser (initial.Elements shape types) = record {
-    well = are_stated (local 0 shape).sizes && all_have types (local 0 shape).sizes (Some (local 0 shape).base);
+    well = nat_lt 0 (length types) && (are_stated (local 0 shape).sizes && all_have types (local 0 shape).sizes (Some (local 0 shape).base));
     sizes = Stated (length types) ∷ (local 0 shape).sizes;
     base = Some (local 0 shape).base;
     depth = depth_of types;
