@@ -1,15 +1,15 @@
 #!/usr/bin/env python3
 """Prints the cases of crates/ctl_stdlib: arguments of each function of the library and what it gives, from whole numbers
-alone. The values come from the exact functions of the other generators, which print nothing here."""
-from contextlib import redirect_stdout
-from io import StringIO
+alone. The values come from the exact functions of the other generators."""
+import sys
 from random import Random
 
-with redirect_stdout(StringIO()):
-    import fix_elem_tables as elem
-    import fix_num_tables as num
-    import fix_trig_tables as trig
-    import table_lookup_tables as look
+sys.dont_write_bytecode = True
+
+import fix_elem_tables as elem
+import fix_num_tables as num
+import fix_trig_tables as trig
+import table_lookup_tables as look
 
 ONE, MOST = num.ONE, num.MAX
 half, add, sub, mul, div = num.half, look.add, look.sub, look.mul, look.div
@@ -206,4 +206,5 @@ def main():
     show("CONSTANTS", "The name of each constant, and its word.", "(&[u8], i64)", [f'b"{name}", {word}' for name, word in CONSTANTS.items()])
 
 
-main()
+if __name__ == "__main__":
+    main()

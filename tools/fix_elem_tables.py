@@ -7,7 +7,7 @@ The exponent is found by halving, and a power by a product over the set bits.
 import math
 import sys
 
-F = int(sys.argv[1]) if len(sys.argv) > 1 else 32
+F = int(sys.argv[1]) if __name__ == "__main__" and len(sys.argv) > 1 else 32
 ONE = 1 << F
 MOST = 2**63 - 1
 
@@ -156,14 +156,19 @@ def print_constants():
     print("];")
 
 
-print_constants()
-print("""file: crates/number_rows/src/elementary/tables.rt
+def main():
+    print_constants()
+    print("""file: crates/number_rows/src/elementary/tables.rt
 //! Cases at the edges, computed with exact whole numbers.
 //!
 //! Printed by tools/fix_elem_tables.py.
 """)
-table("POWERS", "A raw x and the raws of 2^x, e^x and 10^x.", [(x, exp2(x), exp(x), pow10(x)) for x in TO_POWERS])
-table("LOGARITHMS", "A raw x, the raws of its logarithms to the bases 2, e and 10, and of its square root.",
-      [(x, log2(x), log(x), log10(x), sqrt(x)) for x in TO_LOGARITHMS])
-table("PAIRS", "Two raws x and y, and the raws of pow, hypot and fmod of them.",
-      [(x, y, pow(x, y), hypot(x, y), fmod(x, y)) for x, y in PAIRS])
+    table("POWERS", "A raw x and the raws of 2^x, e^x and 10^x.", [(x, exp2(x), exp(x), pow10(x)) for x in TO_POWERS])
+    table("LOGARITHMS", "A raw x, the raws of its logarithms to the bases 2, e and 10, and of its square root.",
+          [(x, log2(x), log(x), log10(x), sqrt(x)) for x in TO_LOGARITHMS])
+    table("PAIRS", "Two raws x and y, and the raws of pow, hypot and fmod of them.",
+          [(x, y, pow(x, y), hypot(x, y), fmod(x, y)) for x, y in PAIRS])
+
+
+if __name__ == "__main__":
+    main()

@@ -196,13 +196,18 @@ def print_rows(name, comment, rows):
     print("];")
 
 
-check()
-print_turns()
-print("file: crates/number_rows/src/trigonometric/tables.rt")
-print("//! Exact values of the angle functions.")
-print("//!")
-print("//! Printed by tools/fix_trig_tables.py.")
-print_rows("ANGLES", "A raw, and the raws of its sine, cosine and tangent.", [(x, *sin_cos(x), tan(x)) for x in angles()])
-print_rows("POINTS", "The raws y and x, and the raw of the angle at which (x, y) lies.", [(y, x, atan2(y, x)) for y, x in points()])
-print_rows("SHARES", "A raw, and the raws of its arc sine, arc cosine and arc tangent.",
-           [(x, asin(x), acos(x), atan(x)) for x in shares()])
+def main():
+    check()
+    print_turns()
+    print("file: crates/number_rows/src/trigonometric/tables.rt")
+    print("//! Exact values of the angle functions.")
+    print("//!")
+    print("//! Printed by tools/fix_trig_tables.py.")
+    print_rows("ANGLES", "A raw, and the raws of its sine, cosine and tangent.", [(x, *sin_cos(x), tan(x)) for x in angles()])
+    print_rows("POINTS", "The raws y and x, and the raw of the angle at which (x, y) lies.", [(y, x, atan2(y, x)) for y, x in points()])
+    print_rows("SHARES", "A raw, and the raws of its arc sine, arc cosine and arc tangent.",
+               [(x, asin(x), acos(x), atan(x)) for x in shares()])
+
+
+if __name__ == "__main__":
+    main()

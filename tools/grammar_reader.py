@@ -69,8 +69,7 @@ def text_value(span):
     return re.sub(r"\\(.)", lambda m: stands.get(m[1], m[1]), span[1:-1], flags=re.S)
 
 
-def token_at(text, at):
-    line = 1 + text.count("\n", 0, at)
+def token_at(text, at, line):
     found = NAME.match(text, at)
     if found:
         return Token(found[0] if found[0] in KEYWORDS else "NAME", found[0], at, line)
@@ -89,10 +88,13 @@ def token_at(text, at):
 def lex(text):
     """The tokens of a text. Its bytes are looked at as characters."""
     text = text.encode().decode("latin-1")
-    at, tokens = BLANKS.match(text).end(), []
+    at, past, line, tokens = BLANKS.match(text).end(), 0, 1, []
     while at < len(text):
-        tokens.append(token_at(text, at))
-        at = BLANKS.match(text, at + len(tokens[-1].span)).end()
+        line += text.count("\n", past, at)
+        tokens.append(token_at(text, at, line))
+        past = at + len(tokens[-1].span)
+        line += text.count("\n", at, past)
+        at = BLANKS.match(text, past).end()
     return tokens
 
 
