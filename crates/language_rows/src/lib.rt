@@ -5,3 +5,5 @@
 mod forms;
 #[cfg(test)]
 mod programs;
+#[cfg(test)]
+mod scope;

@@ -1,0 +1,6 @@
+mod Tables
+mod Library
+mod Lists
+mod Standing
+mod Finding
+mod Growing
