@@ -1,0 +1,9 @@
+mod Lists
+mod RowShapes
+mod OneByOne
+mod Gathered
+mod Counts
+mod RowsKeep
+mod Arguments
+mod Fitting
+mod FilledIn

@@ -1,0 +1,5 @@
+mod Lists
+mod Alike
+mod Flat
+mod OneByOne
+mod Puts

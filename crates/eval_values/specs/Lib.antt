@@ -1,0 +1,5 @@
+pub mod Sizes
+pub mod Uncounted
+pub mod Size
+pub mod Means
+pub mod Stores
