@@ -1,5 +1,5 @@
 -- The arguments of a row one after the other, by the shapes of its parameters.
-use Rattle.std.proofs.Common.{◌≡◌, ℕ, suc, ◌+◌, ◌-◌, ◌<◌, ◌≤◌, List, [], ◌∷◌, ◌++◌, map, drop, length, get_or, Option, Bool, true, false, ◌==◌, refl, sym, ap, ◌∙◌, arith}
+use Rattle.std.proofs.Common.{◌≡◌, ℕ, suc, ◌+◌, ◌-◌, ◌<◌, ◌≤◌, List, ◌∷◌, ◌++◌, map, drop, length, get_or, Option, Bool, true, false, ◌==◌, refl, sym, ap, ◌∙◌, arith}
 use Rattle.ctl_stdlib.specs.declared.row.Param.{Param}
 use Rattle.ctl_stdlib.specs.declared.row.RowShape.{RowShape}
 use Rattle.ctl_stdlib.specs.declared.row.RowShape.TheVariants.{Bool as BoolShape, Half, Float, Float3, Float33, Float44, Floats, Pairs, Lattice, Chromaticities}
@@ -13,7 +13,7 @@ use Rattle.eval_values.specs.Sizes.{sizes_of, given_fits}
 use Rattle.eval_library.specs.Means.{opened_from}
 use Rattle.eval_library.proofs.Lists.{get_same}
 use Rattle.eval_library.proofs.RowShapes.{extents_row, base_row, opens_row}
-use Rattle.eval_library.proofs.OneByOne.{fits_next, fits_not, fits_short, fits_end, open_more, open_none}
+use Rattle.eval_library.proofs.OneByOne.{fits_next, fits_not, open_more, open_none}
 
 -- ---- the sizes of a shape
 

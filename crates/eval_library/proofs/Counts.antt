@@ -1,5 +1,5 @@
 -- How many words the values have that fit scalars, arrays of scalars, and the struct of four points.
-use Rattle.std.proofs.Common.{◌≡◌, ℕ, suc, ℤ, ◌+◌, ◌*◌, List, [], ◌∷◌, ◌++◌, map, length, Option, Some, None, Bool, true, false, ◌&&◌, refl, ap, sym, subst, ◌∙◌, arith, flat_map, slice_get}
+use Rattle.std.proofs.Common.{◌≡◌, ℕ, suc, ℤ, ◌+◌, ◌*◌, List, [], ◌∷◌, map, length, Option, Some, Bool, true, false, ◌&&◌, refl, ap, sym, ◌∙◌, arith, flat_map, slice_get}
 use Rattle.std.proofs.lemmas.List.{length-append}
 use Rattle.std.proofs.lemmas.List.Folds.{flat_map-map}
 use Rattle.std.proofs.lemmas.Bool.{eqb-true}
@@ -18,7 +18,7 @@ use Rattle.ctl_types.specs.declared.value.Value.TheOpen as layer
 use Rattle.ctl_types.specs.declared.value.Value.TheOpen.{Value-F}
 use Rattle.ctl_types.specs.declared.program.Struct.{Struct as StructForm}
 use Rattle.ctl_types.specs.Definitions.{chromaticities}
-use Rattle.ctl_types.specs.Shapes.{whole_of, product, field_shapes, field_shapes_in, numbered, size_in}
+use Rattle.ctl_types.specs.Shapes.{whole_of, product, field_shapes, field_shapes_in}
 use Rattle.ctl_types.specs.Values.{one, Fit, fit_one, fit_list, fit_fields, fit_step, fits, flat_step, flat, flat_all, all_fit, each_fit}
 use Rattle.ctl_types.specs.Pairs.{Pair, value_pair}
 use Rattle.eval_library.proofs.RowShapes.{extents_pair, base_pair}

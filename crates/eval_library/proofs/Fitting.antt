@@ -1,6 +1,6 @@
 -- What follows where a function takes its arguments: the words fit the call, and the outputs are floats.
-use Rattle.std.proofs.Common.{◌≡◌, ℕ, suc, ℤ, ◌+◌, ◌*◌, ◌<◌, ◌≤◌, List, [], ◌∷◌, ◌++◌, map, length, get_or, sum_by, replicate, Option, Some, None, Bool, true, false, not, ◌&&◌, ◌||◌, ◌==◌, if◌then◌else◌, nat_le, refl, sym, ap, subst, ◌∙◌, arith, slice_get}
-use Rattle.std.specs.List.{All, AllByRecursion}
+use Rattle.std.proofs.Common.{◌≡◌, ℕ, ℤ, ◌+◌, ◌*◌, ◌≤◌, List, [], ◌∷◌, ◌++◌, map, length, sum_by, Some, None, Bool, true, false, not, ◌||◌, if◌then◌else◌, refl, sym, ap, subst, ◌∙◌, arith, slice_get}
+use Rattle.std.specs.List.{AllByRecursion}
 use Rattle.std.proofs.lemmas.List.{length-append}
 use Rattle.std.proofs.lemmas.List.Sums.{sum_by-cons}
 use Rattle.std.proofs.lemmas.List.Elements.{All-from_recursion}
@@ -14,13 +14,11 @@ use Rattle.ctl_stdlib.specs.declared.row.RowShape.TheVariants.{Bool as BoolShape
 use Rattle.ctl_stdlib.specs.declared.row.Param.{Param}
 use Rattle.ctl_stdlib.specs.Rows.{row}
 use Rattle.ctl_stdlib.specs.Shapes.{Fits, base, open_sizes, elements, stated_words, is_table, table_words, input_words, filled_words}
-use Rattle.ctl_types.specs.declared.shape.Base.TheVariants.{Scalar, Struct}
-use Rattle.ctl_types.specs.declared.shape.Shape.{Shape}
 use Rattle.ctl_types.specs.declared.value.Value.{Value}
 use Rattle.ctl_types.specs.declared.program.Struct.{Struct as StructForm}
 use Rattle.ctl_types.specs.Definitions.{chromaticities}
-use Rattle.ctl_types.specs.Shapes.{extents, base_of, numbered, size_in, product, local, locals, open_count, open_sizes_of}
-use Rattle.ctl_types.specs.Values.{Env, flat, scalars, fits, argument_fits, arguments_fit, sizes_fit, takes}
+use Rattle.ctl_types.specs.Shapes.{extents, base_of, numbered, size_in, product, locals, open_count}
+use Rattle.ctl_types.specs.Values.{Env, flat, scalars, fits, arguments_fit, sizes_fit, takes}
 use Rattle.ctl_types.specs.Library.{shape_of, row_extents, zero_base_of, param_shapes, words_of, holds_table, holds_input}
 use Rattle.eval_library.specs.Means.{IsFloat, OutputsAreFloats}
 use Rattle.eval_library.proofs.RowShapes.{extents_row, base_row, opens_rows}

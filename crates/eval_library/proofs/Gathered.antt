@@ -1,12 +1,12 @@
 -- The words of arguments one after the other.
-use Rattle.std.proofs.Common.{◌≡◌, ℕ, ◌+◌, ◌<◌, ◌≤◌, ℤ, List, [], ◌∷◌, ◌++◌, drop, length, get_or, Option, Some, None, Bool, true, false, if◌then◌else◌, refl, sym, ap, ◌∙◌}
+use Rattle.std.proofs.Common.{◌≡◌, ℕ, ◌+◌, ◌<◌, ◌≤◌, List, [], ◌∷◌, ◌++◌, drop, length, get_or, Option, Some, None, Bool, true, false, if◌then◌else◌, refl, ap, ◌∙◌}
 use Rattle.std.proofs.lemmas.List.{drop_all}
 use Rattle.ctl_stdlib.specs.declared.row.Param.{Param}
 use Rattle.ctl_types.specs.declared.value.Value.{Value}
 use Rattle.ctl_types.specs.Values.{Env, flat}
 use Rattle.ctl_types.specs.Library.{words_of}
 use Rattle.eval_library.specs.declared.words.Group.{Group}
-use Rattle.eval_library.specs.Means.{chosen_by, flat_of, words_by}
+use Rattle.eval_library.specs.Means.{chosen_by, words_by}
 use Rattle.eval_library.proofs.Lists.{next, get_same}
 
 one_more : (g : Group) (p : Param) (o : Option Value) (params : List Param) (frame : Env) → words_of (chosen_by g) (p ∷ params) (o ∷ frame) ≡ words_by g p o ++ words_of (chosen_by g) params frame

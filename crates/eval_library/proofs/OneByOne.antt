@@ -1,6 +1,6 @@
 -- Arguments one after the other, each with the open sizes that are left for it.
-use Rattle.std.proofs.Common.{◌≡◌, ℕ, zero, suc, ◌+◌, ◌-◌, ◌<◌, ◌≤◌, List, [], ◌∷◌, ◌++◌, map, drop, length, get_or, Option, Some, None, Bool, true, false, ◌&&◌, ◌==◌, refl, sym, ap, ◌∙◌, arith, nat_eq, nat_le, eq-eqb}
-use Rattle.std.proofs.lemmas.List.{drop_all, length-append}
+use Rattle.std.proofs.Common.{◌≡◌, ℕ, zero, suc, ◌+◌, ◌<◌, ◌≤◌, List, [], ◌∷◌, map, drop, length, get_or, Option, Some, None, Bool, true, false, ◌&&◌, ◌==◌, refl, sym, ap, ◌∙◌, arith, nat_eq, nat_le}
+use Rattle.std.proofs.lemmas.List.{drop_all}
 use Rattle.std.proofs.lemmas.List.Sums.{sum_by-cons}
 use Rattle.std.proofs.lemmas.Bool.Decides.{nat_tests}
 use Rattle.ctl_base.specs.declared.limits.TheConstants.{SCALARS}
@@ -10,7 +10,7 @@ use Rattle.ctl_types.specs.declared.shape.Shape.{Shape}
 use Rattle.ctl_types.specs.declared.value.Value.{Value}
 use Rattle.ctl_types.specs.declared.program.Struct.{Struct}
 use Rattle.ctl_types.specs.Shapes.{numbered, size_in, extents, base_of, local, locals, open_count, open_sizes_of}
-use Rattle.ctl_types.specs.Values.{Env, fits, flat, flat_all, scalars, argument_fits, arguments_fit}
+use Rattle.ctl_types.specs.Values.{Env, fits, scalars, argument_fits, arguments_fit}
 use Rattle.eval_values.specs.Sizes.{sizes_of, given_fits}
 use Rattle.eval_library.proofs.Lists.{next}
 

@@ -1,24 +1,17 @@
 -- The shapes of rows, and how many words their arguments have.
-use Rattle.std.proofs.Common.{◌≡◌, ℕ, zero, suc, ℤ, ◌+◌, ◌*◌, ◌≤◌, ◌<◌, List, [], ◌∷◌, ◌++◌, map, length, get_or, replicate, Option, Some, None, Bool, true, false, not, ◌&&◌, ◌||◌, ◌==◌, if◌then◌else◌, refl, sym, ap, subst, ◌∙◌, arith, eqb-true, leb-true, sum_by, slice_get, nat_le}
-use Rattle.std.specs.Prelude.{All}
-use Rattle.std.proofs.lemmas.List.{length-append}
+use Rattle.std.proofs.Common.{◌≡◌, List, [], ◌∷◌, map, Some, refl, ap, ◌∙◌, arith, sum_by}
 use Rattle.std.proofs.lemmas.List.Sums.{sum_by-cons}
-use Rattle.ctl_base.specs.declared.limits.TheConstants.{ARRAY_SIZE, SCALARS}
-use Rattle.ctl_base.specs.declared.kind.ScalarKind.{ScalarKind}
 use Rattle.ctl_base.specs.declared.kind.ScalarKind.TheVariants as kind
-use Rattle.ctl_stdlib.specs.declared.row.LibraryId.{LibraryId}
-use Rattle.ctl_stdlib.specs.declared.row.LibraryId.TheVariants.{Exp, Log, Log10, Pow10, Sqrt, Fabs, Floor, Sin, Cos, Tan, Asin, Acos, Atan, Pow, Fmod, Hypot, Atan2, ExpH, LogH, Log10H, Pow10H, PowH, AddF3F3, SubtractF3F3, MultFF3, DotF3F3, CrossF3F3, LengthF3, MultF3F33, MultF3F44, MultF33F33, MultF44F44, MultFF33, MultFF44, AddF33F33, AddF44F44, TransposeF33, TransposeF44, InvertF33, InvertF44, Lookup1D, LookupCubic1D, Interpolate1D, InterpolateCubic1D, Lookup3DF3, Lookup3DF, RgbToXyz, XyzToRgb, Assert}
 use Rattle.ctl_stdlib.specs.declared.row.RowShape.{RowShape}
 use Rattle.ctl_stdlib.specs.declared.row.RowShape.TheVariants.{Bool as BoolShape, Half, Float, Float3, Float33, Float44, Floats, Pairs, Lattice, Chromaticities}
 use Rattle.ctl_stdlib.specs.declared.row.Base.{Base as RowBase}
 use Rattle.ctl_stdlib.specs.declared.row.Base.TheVariants as row_base
 use Rattle.ctl_stdlib.specs.declared.row.Param.{Param}
-use Rattle.ctl_stdlib.specs.Rows.{row}
-use Rattle.ctl_stdlib.specs.Shapes.{base, open_sizes, stated_sizes, base_words, elements, stated_words, is_table, table_words, input_words, output_words, result_words, filled_words}
+use Rattle.ctl_stdlib.specs.Shapes.{base, open_sizes}
 use Rattle.ctl_types.specs.declared.shape.Base.{Base}
-use Rattle.ctl_types.specs.declared.shape.Base.TheVariants.{Scalar, Struct}
+use Rattle.ctl_types.specs.declared.shape.Base.TheVariants.{Scalar}
 use Rattle.ctl_types.specs.declared.shape.Extent.{Extent}
-use Rattle.ctl_types.specs.declared.shape.Extent.TheVariants.{Stated, Unstated}
+use Rattle.ctl_types.specs.declared.shape.Extent.TheVariants.{Stated}
 use Rattle.ctl_types.specs.declared.shape.Shape.{Shape, roll-Shape}
 use Rattle.ctl_types.specs.declared.shape.Shape.TheOpen as layer
 use Rattle.ctl_types.specs.declared.shape.Shape.TheFolds.{fold-roll-Shape}

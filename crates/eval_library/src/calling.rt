@@ -8,6 +8,7 @@ ghost use Rattle.ctl_types.specs.Definitions.{chromaticities};
 ghost use Rattle.ctl_types.specs.Library.{holds_input, holds_table, library_answer, param_shapes, words_of};
 ghost use Rattle.ctl_types.specs.Values.{takes};
 ghost use Rattle.eval_library.specs.Ends.{answer_of};
+ghost use Rattle.eval_library.specs.declared.calling.TheConstants.{MOST_WORDS};
 
 use crate::results::give;
 use crate::takes::takes_row;
@@ -17,6 +18,9 @@ use ctl_stdlib::{LibraryId, RowShape, call, params, result};
 use ctl_types::{Struct, Value};
 use fix_num::Fix;
 use std::alloc::Global;
+
+// No function fills more words: a matrix of four rows has as many.
+const MOST_WORDS: usize = 16;
 
 /// How a call of a function of the library ends.
 #[derive(Drop)]
@@ -42,11 +46,12 @@ pub fn call_library(
     if !takes_row(alloc, structs, params(id), sizes, frame)? {
         return Ok(LibraryEnd::Unfit);
     }
-    let mut words = zeros(alloc, filled_words(id))?;
-    if !fill(alloc, id, structs, sizes, frame, &mut words)? {
+    let mut buffer = [Fix::from_raw(0); MOST_WORDS];
+    let words = &mut buffer[..filled_words(id)];
+    if !fill(alloc, id, structs, sizes, frame, words)? {
         return Ok(LibraryEnd::Refused);
     }
-    Ok(LibraryEnd::Given(give(alloc, id, &words, frame)?))
+    Ok(LibraryEnd::Given(give(alloc, id, words, frame)?))
 }
 
 // Fills the words of the result and of the outputs. The answer is false where an assertion is.
@@ -71,7 +76,8 @@ fn fill(
 
 // How many words a function fills.
 fn filled_words(id: LibraryId) -> usize
-    ensures { result ≡ filled_words (row id) }
+    ensures words { result ≡ filled_words (row id) }
+    ensures few { result ≤ MOST_WORDS }
 {
     match id {
         LibraryId::Assert => 0,
@@ -84,7 +90,8 @@ fn filled_words(id: LibraryId) -> usize
 }
 
 fn stated_words(shape: RowShape) -> usize
-    ensures { result ≡ stated_words shape }
+    ensures words { result ≡ stated_words shape }
+    ensures few { result ≤ MOST_WORDS }
 {
     match shape {
         RowShape::Float3 => 3,
@@ -95,14 +102,4 @@ fn stated_words(shape: RowShape) -> usize
         RowShape::Chromaticities => 8,
         _ => 1,
     }
-}
-
-fn zeros(alloc: Global, count: usize) -> Result<Vec<Fix>, Memory>
-    ensures { IfOk result (λ words. length words.items ≡ count) }
-{
-    let mut words = Vec::new(alloc);
-    while words.len() < count {
-        words.push(Fix::from_raw(0))?;
-    }
-    Ok(words)
 }

@@ -1,5 +1,5 @@
 //! What is done to the values of a program without running anything: operators and conversions, shapes and sizes, zeros,
-//! parts, stores, and calls of the library.
+//! parts, and stores.
 #![tactic(auto)]
 
 pub use fitting::{is_within_limit, sizes_fit, takes};

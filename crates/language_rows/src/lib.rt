@@ -4,6 +4,8 @@
 #[cfg(test)]
 mod forms;
 #[cfg(test)]
+mod library;
+#[cfg(test)]
 mod programs;
 #[cfg(test)]
 mod scope;

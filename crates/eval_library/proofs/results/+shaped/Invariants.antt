@@ -1,4 +1,4 @@
-use Rattle.std.proofs.Common.{◌≡◌, ◌++◌, ◌+◌, ◌*◌, [], drop, length, replicate}
+use Rattle.std.proofs.Common.{◌≡◌, ◌+◌, ◌*◌, [], drop, length, replicate}
 use Rattle.ctl_types.specs.declared.shape.Base.TheVariants.{Scalar as ScalarBase}
 use Rattle.ctl_types.specs.Values.{filled, fill_all, zero_of}
 use Rattle.eval_library.proofs.FilledIn.{behind}

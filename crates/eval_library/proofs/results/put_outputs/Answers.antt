@@ -1,5 +1,4 @@
-use Rattle.std.proofs.Common.{◌≡◌, ◌<◌, arith, sym, ap, ◌∙◌, drop, length, length-set, slice_set, get_or, false}
-use Rattle.ctl_stdlib.specs.declared.row.Param.{Param}
+use Rattle.std.proofs.Common.{◌≡◌, ◌<◌, arith, sym, ◌∙◌, drop, length, length-set, slice_set, false}
 use Rattle.ctl_stdlib.specs.declared.row.RowShape.TheVariants.{Float}
 use Rattle.eval_library.proofs.FilledIn.{outputs_next, outputs_short, floats_next}
 use Rattle.eval_library.proofs.results.put_outputs.Goals as goal

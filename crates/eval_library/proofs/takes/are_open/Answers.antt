@@ -1,4 +1,4 @@
-use Rattle.std.proofs.Common.{arith, sym, ◌∙◌}
+use Rattle.std.proofs.Common.{arith, sym}
 use Rattle.eval_library.proofs.Arguments.{row_opens_more, row_opens_none}
 use Rattle.eval_library.proofs.takes.are_open.Goals as goal
 
