@@ -1,0 +1,6 @@
+mod Lists
+mod Forms
+mod Loops
+mod Functions
+mod Frames
+mod Layers
