@@ -4,8 +4,4 @@
 #[cfg(test)]
 mod forms;
 #[cfg(test)]
-mod library;
-#[cfg(test)]
 mod programs;
-#[cfg(test)]
-mod scope;
