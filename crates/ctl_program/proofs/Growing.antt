@@ -14,7 +14,7 @@ use Rattle.ctl_types.specs.Definitions.{Defined, library_structs, library_consta
 use Rattle.ctl_types.specs.Typing.{Scene, are_stated, sizes_stand, base_stands}
 use Rattle.ctl_types.specs.Scoping.{IsDefined, field_stands, fields_stand, empty_scene, struct_stands, structs_stand, constant_stands, constants_stand, function_signature, function_stands, functions_stand, signatures_after, with_functions, with_struct, with_constant, with_function, scene_before, scene_of}
 use Rattle.ctl_program.proofs.Grown.{both, and_true, Known, Grows}
-use Rattle.ctl_program.proofs.GrownScopes.{functions_grown, constant_grown, constants_grown}
+use Rattle.ctl_program.proofs.GrownScopes.{functions_grown, signatures_grown, constant_grown, constants_grown}
 
 -- ---- functions
 
@@ -173,3 +173,20 @@ constant_defined d c is h =
 -- where the definitions are those of e
 pub constant_defined_at : (d e : Defined) (c : Constant) → d ≡ e → IsDefined d → constant_stands (scene_before e) c ≡ true → IsDefined (with_constant d c)
 constant_defined_at d e c same is h = constant_defined d c is (ap (λ (y : Defined). constant_stands (scene_before y) c) same ∙ h)
+
+-- ---- signatures
+
+pub struct_signatures : (d : Defined) → IsDefined d → (x : Struct) → (scene_of (with_struct d x)).functions ≡ (scene_of d).functions
+struct_signatures d is x =
+    let p = both (structs_stand [] [] d.structs) _ is.stand in
+    let q = both (constants_stand (scene_before d) d.constants) _ p.1 in
+    let structs = d.structs ++ x ∷ [] in
+    let shapes = map (λ (c : Constant). c.shape) d.constants in
+    signatures_grown structs (struct_counts structs) shapes (scene_before d) (struct_grows d.structs shapes x p.0) d.functions q.1
+
+pub constant_signatures : (d : Defined) → IsDefined d → (c : Constant) → (scene_of (with_constant d c)).functions ≡ (scene_of d).functions
+constant_signatures d is c =
+    let p = both (structs_stand [] [] d.structs) _ is.stand in
+    let q = both (constants_stand (scene_before d) d.constants) _ p.1 in
+    let shapes = map (λ (c : Constant). c.shape) (d.constants ++ c ∷ []) in
+    signatures_grown d.structs (struct_counts d.structs) shapes (scene_before d) (constant_grows d.structs d.constants c p.0) d.functions q.1

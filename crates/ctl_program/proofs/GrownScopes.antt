@@ -23,7 +23,7 @@ use Rattle.ctl_types.specs.declared.program.Constant.{Constant}
 use Rattle.ctl_types.specs.Shapes.{extents, base_of, open_count, local, whole, whole_of}
 use Rattle.ctl_types.specs.Values.{sizes_at, sizes_fit, scalars}
 use Rattle.ctl_types.specs.Typing.{Typed, has, besides, is_scalar, are_stated, shape_stands, node_stands, Variables, Scene, Signature, formals_from, signature_of, result_type, expr_type, operand_type, PlaceType, place_type}
-use Rattle.ctl_types.specs.Scoping.{Scope, Scoped, Scoping, simple, asked, own_scope, scope_all, scope_arms, tested, looped, may_declare, begins_well, declared_in, first_type, scope_declaration, assignment_type, scope_assignment, scope_start, item_type, scope_items, left_type, scope_return, scope_arm, scope_step, scope_statement, default_stands, parameters_stand, result_stands, is_void, inside, is_block, body_scope, function_signature, function_stands, with_functions, functions_stand, constant_stands, constants_stand}
+use Rattle.ctl_types.specs.Scoping.{Scope, Scoped, Scoping, simple, asked, own_scope, scope_all, scope_arms, tested, looped, may_declare, begins_well, declared_in, first_type, scope_declaration, assignment_type, scope_assignment, scope_start, item_type, scope_items, left_type, scope_return, scope_arm, scope_step, scope_statement, default_stands, parameters_stand, result_stands, is_void, inside, is_block, body_scope, function_signature, function_stands, with_functions, functions_stand, signatures_after, constant_stands, constants_stand}
 use Rattle.ctl_types.specs.Pairs.{Pair, KeepsStatement, KeepsArm, statement_pair}
 use Rattle.ctl_program.proofs.Grown.{both, and_true, Known, grown, Grown, shape_known, shape_grown, fits_grown}
 use Rattle.ctl_program.proofs.GrownTypes.{has_well, expr_grown, operand_grown, call_grown, place_grown, initialiser_grown}
@@ -209,6 +209,13 @@ module _ (structs : List StructForm) (counts : List ℕ) (constants : List Shape
       let b = both (function_stands s f) _ h in
       let k = function_grown s g f b.0 in
       and_true (function_stands (more s) f) _ k.0 (ap (λ (q : Signature). functions_stand (with_functions (more s) (s.functions ++ q ∷ [])) fs) k.1 ∙ functions_grown (with_functions s (s.functions ++ function_signature s f ∷ [])) g fs b.1)
+
+  pub signatures_grown : (s : Scene) (g : More s) (fs : List Function) → functions_stand s fs ≡ true → signatures_after (more s) fs ≡ signatures_after s fs
+  signatures_grown s g [] h = refl
+  signatures_grown s g (f ∷ fs) h =
+      let b = both (function_stands s f) _ h in
+      let k = function_grown s g f b.0 in
+      ap (λ (q : Signature). signatures_after (with_functions (more s) (s.functions ++ q ∷ [])) fs) k.1 ∙ signatures_grown (with_functions s (s.functions ++ function_signature s f ∷ [])) g fs b.1
 
   -- ---- constants
 

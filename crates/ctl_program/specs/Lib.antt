@@ -1,0 +1,2 @@
+-- What stays as it is while definitions are added.
+pub mod Laws

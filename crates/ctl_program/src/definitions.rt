@@ -13,13 +13,15 @@ use fix_num::{arithmetic_stays_in_range, half_keeps};
 use sqlite_items::{Boxed, Items};
 use std::alloc::Global;
 use std::marker::Model;
+use std::rc::Rc;
 
 /// The units of a program with the structs, constants and functions that are defined so far, those of
 /// the library first. They keep the rules: every name and node is there, a function stands before
 /// its callers, every form is well typed, and the values of constants and defaults are of their shapes.
+/// The units can be shared, so that their forms are read while definitions are added.
 #[derive(Drop)]
 pub struct Definitions {
-    units: Units,
+    units: Rc<Units>,
     structs: Items<Struct>,
     constants: Items<Constant>,
     functions: Items<Function>,
@@ -33,9 +35,9 @@ impl Model for Definitions {
 
     ghost coded = { defined_code };
 
-    ghost view = { λ d. record { units = d.units; structs = d.structs; constants = d.constants; functions = d.functions } };
+    ghost view = { λ d. record { units = d.units.value; structs = d.structs; constants = d.constants; functions = d.functions } };
 
-    ghost invariant = { λ d. IsDefined (record { units = d.units; structs = d.structs; constants = d.constants; functions = d.functions }) };
+    ghost invariant = { λ d. IsDefined (record { units = d.units.value; structs = d.structs; constants = d.constants; functions = d.functions }) };
 }
 
 impl Definitions {
@@ -49,7 +51,7 @@ impl Definitions {
         half_keeps();
         arithmetic_stays_in_range();
         Ok(Definitions {
-            units,
+            units: shared(alloc, units)?,
             structs,
             constants,
             functions: Items::new(alloc),
@@ -59,7 +61,17 @@ impl Definitions {
     pub fn units(&self) -> &Units
         ensures { result.now ≡ self.now.units }
     {
-        &self.units
+        self.units.as_ref()
+    }
+
+    /// The units, which the definitions go on keeping.
+    pub fn shared_units(&self) -> Result<Rc<Units>, Memory>
+        ensures { IfOk result (λ units. units.value ≡ self.now.units) }
+    {
+        match self.units.clone() {
+            Ok(units) => Ok(units),
+            Err(_) => Err(Memory),
+        }
     }
 
     pub fn structs(&self) -> &[Struct]
@@ -115,6 +127,16 @@ impl Definitions {
     {
         self.functions.push(function)?;
         Ok(())
+    }
+}
+
+// Units that can be shared.
+fn shared(alloc: Global, units: Units) -> Result<Rc<Units>, Memory>
+    ensures { IfOk result (λ shared. shared.value ≡ units) }
+{
+    match Rc::new(alloc, units) {
+        Ok(shared) => Ok(shared),
+        Err(_) => Err(Memory),
     }
 }
 

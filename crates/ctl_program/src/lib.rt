@@ -2,7 +2,9 @@
 #![tactic(auto)]
 
 pub use definitions::Definitions;
+pub use laws::signatures_stay;
 pub use program::Program;
 
 mod definitions;
+mod laws;
 mod program;

@@ -4,3 +4,4 @@ mod Lists
 mod Standing
 mod Finding
 mod Growing
+mod Staying

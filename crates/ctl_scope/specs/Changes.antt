@@ -43,19 +43,15 @@ entered s = record s { blocks = empty_block (length s.variables) ∷ s.blocks }
 abbrev pub hidden_from : ℕ → Variables → Variables
 hidden_from n variables = take n variables ++ replicate (length variables - n) None
 
--- where the innermost block began
-abbrev pub start_of : List Block → ℕ
-start_of [] = 0
-start_of (b ∷ blocks) = b.start
+-- A block ends inside the next one, and its variables are not visible any more. The outermost block does not end.
+abbrev pub left_from : List Block → ScopeForm → ScopeForm
+left_from [] s = s
+left_from (b ∷ []) s = s
+left_from (b ∷ around ∷ blocks) s = record s { blocks = around ∷ blocks; variables = hidden_from b.start s.variables }
 
--- the blocks around the innermost one
-abbrev pub outer : List Block → List Block
-outer [] = []
-outer (b ∷ blocks) = blocks
-
--- a block ends, and its variables are not visible any more
+-- the innermost block ends
 abbrev pub left : ScopeForm → ScopeForm
-left s = record s { blocks = outer s.blocks; variables = hidden_from (start_of s.blocks) s.variables }
+left s = left_from s.blocks s
 
 -- whether the innermost block has a name
 abbrev pub is_declared : List Block → List ℕ → Bool

@@ -7,13 +7,14 @@ use Rattle.ctl_types.specs.declared.program.Constant.{Constant as ConstantForm}
 use Rattle.ctl_types.specs.declared.program.Function.{Function}
 use Rattle.ctl_types.specs.Shapes.{struct_scalars, struct_counts}
 use Rattle.ctl_types.specs.Definitions.{Defined}
+use Rattle.ctl_types.specs.Typing.{Variable}
 use Rattle.ctl_types.specs.Scoping as defined
 use Rattle.ctl_types.specs.Scoping.{library_definitions, scene_of, function_signature}
 use Rattle.ctl_scope.specs.declared.meaning.Meaning.{Meaning}
 use Rattle.ctl_scope.specs.declared.meaning.Meaning.TheVariants as meaning
 use Rattle.ctl_scope.specs.declared.block.Block.{Block}
 use Rattle.ctl_scope.specs.Names.{meaning_in}
-use Rattle.ctl_scope.specs.Changes.{library_scope, whole_name, is_defined, with_struct, with_constant, with_function}
+use Rattle.ctl_scope.specs.Changes.{library_scope, entered, left, declared, with_parameter, in_head, in_default, in_body, after_function, whole_name, is_defined, with_struct, with_constant, with_function}
 use Rattle.ctl_scope.specs.Beside.{Beside}
 use Rattle.ctl_scope.specs.Scope.{ScopeForm, IsScope, look_up, is_plain, is_visible, visible, in_blocks}
 
@@ -38,6 +39,22 @@ InnermostIsFound =
     (s : ScopeForm) (name : QualifiedName) (inner : List Block) (b : Block) (around : List Block) (m : Meaning)
     → s.sees_variables ≡ true → is_plain name ≡ true → s.blocks ≡ inner ++ b ∷ around
     → in_blocks name.name inner ≡ None → meaning_in name.name b.names ≡ Some m → look_up s name ≡ Some m
+
+-- ---- what scopes keep
+
+-- A scope stays one where a block begins or ends, a variable or a parameter is declared, and a function begins and ends.
+pub record StaysScope (s : ScopeForm) : Type 0 where
+  pub enter : IsScope (entered s)
+  pub leave : IsScope (left s)
+  pub variable : (name : List ℕ) (v : Variable) → IsScope (declared name v s)
+  pub parameter : (name : List ℕ) (v : Variable) (n : ℕ) → IsScope (with_parameter name v n s)
+  pub head : (name : List ℕ) → IsScope (in_head name s)
+  pub default : IsScope (in_default s)
+  pub body : (name : List ℕ) → IsScope (in_body name s)
+  pub ended : IsScope (after_function s)
+
+abbrev pub ScopesStay : Type 0
+ScopesStay = (s : ScopeForm) → IsScope s → StaysScope s
 
 -- ---- the scope beside the definitions that it numbers
 

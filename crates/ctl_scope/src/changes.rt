@@ -25,14 +25,15 @@ impl Scope {
         Ok(())
     }
 
-    /// A block ends, which is not the only one. Its variables are not visible any more.
+    /// A block ends. Its variables are not visible any more. The outermost block does not end.
     pub fn leave(&mut self)
-        requires { 1 < length self.old.blocks }
         ensures { self.new ≡ left self.old }
     {
-        hide(&mut self.variables, self.inner.start);
         match self.outer.pop() {
-            Some(around) => self.inner = around,
+            Some(around) => {
+                hide(&mut self.variables, self.inner.start);
+                self.inner = around;
+            }
             None => {}
         }
     }

@@ -7,7 +7,7 @@
 pub use around::Around;
 pub use block::Block;
 pub use kind::{CheckKind, ScopeFault};
-pub use laws::{beside_begins, beside_grows, found_is_there, innermost_is_found};
+pub use laws::{beside_begins, beside_grows, found_is_there, innermost_is_found, scopes_stay};
 pub use meaning::Meaning;
 pub use names::NameTable;
 pub use scope::Scope;

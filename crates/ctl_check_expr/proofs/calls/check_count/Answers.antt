@@ -1,0 +1,10 @@
+use Rattle.std.proofs.Common.{subst, sym}
+use Rattle.std.specs.Option.{option_copied}
+use Rattle.ctl_types.specs.declared.expression.Callee.TheVariants as callee
+use Rattle.ctl_check_rules.specs.Faults.{Gives, rule_at, node_of}
+use Rattle.ctl_check_expr.specs.Calls.{formal_of}
+use Rattle.ctl_check_expr.proofs.Lists.{counted_within}
+use Rattle.ctl_check_expr.proofs.calls.check_count.Goals as goal
+
+pub returns : goal.returns
+returns c = subst (λ v. Gives c.check_missing.result (rule_at c.args.unit c.args.token v)) (sym (counted_within formal_of (node_of c.args.unit c.args.token) (callee.Program c.args.k) c.args.parameters.now (option_copied c.args.gives) c.args.depth c.args.count c.args.after c.if-count-parameters.false)) c.check_missing.ensures
