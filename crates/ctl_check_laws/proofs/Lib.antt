@@ -1,0 +1,14 @@
+pub mod Basics
+pub mod Shapes
+pub mod Types
+pub mod Kept
+pub mod Operators
+pub mod Fitting
+pub mod Around
+pub mod Library
+pub mod Places
+pub mod Calls
+pub mod Written
+pub mod Defined
+pub mod Expressions
+pub mod Conclusion
