@@ -246,14 +246,17 @@ module _ (s : ScopeForm) (d : Defined) (vs : Variables) (g : Around s d vs) wher
 
   missing_filled : (formals : List CallFormal) (before final : Passed) → FormalsFit formals → missing formals before ≡ Some final → Absents formals before final
   missing_filled [] before final h e =
-      let q : final ≡ before = cc in
-      ([], record {
-        sizes = [];
-        are_arguments = ap (λ (p : Passed). p.arguments) q ∙ sym (append-nil before.arguments);
-        are_sizes = ap (λ (p : Passed). p.sizes) q ∙ sym (append-nil before.sizes);
-        depth = let z : final.depth ≡ before.depth = ap (λ (p : Passed). p.depth) q in omega arith;
-        suit = refl;
-      }, refl)
+      let q : final ≡ before = cc in (
+        [],
+        record {
+          sizes = [];
+          are_arguments = ap (λ (p : Passed). p.arguments) q ∙ sym (append-nil before.arguments);
+          are_sizes = ap (λ (p : Passed). p.sizes) q ∙ sym (append-nil before.sizes);
+          depth = let z : final.depth ≡ before.depth = ap (λ (p : Passed). p.depth) q in omega arith;
+          suit = refl;
+        },
+        refl,
+      )
   missing_filled (q ∷ formals) before final h e = absent_more q formals before final q.is_output q.default (λ after f. missing_filled formals after final h.1 f) refl refl h.0 e
 
   -- ---- arguments that are there

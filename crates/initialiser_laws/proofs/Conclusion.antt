@@ -102,9 +102,9 @@ module _ (x : Scene) (vs : Variables) (result : Typed) (conversion_law : Convers
         let z : conversion_to p.sizes p.base c.base ≡ Some conversion = subst (λ t. (if t then conversion_to p.sizes p.base c.base else None) ≡ Some conversion) f e in
         let b = both (are_stated p.sizes) _ f in
         wanted_by o g (subst (λ base. conversion_to p.sizes base c.base ≡ Some conversion) g z) where
-      wanted_by : (o : Option Base) → p.base ≡ o → conversion_to p.sizes o c.base ≡ Some conversion → (are_stated p.sizes ≡ true) × (p.sizes ≡ c.sizes) × (wanted : Base) × (p.base ≡ Some wanted) × (base_conversion p.sizes wanted c.base ≡ Some conversion)
-      wanted_by None g z = absurd (cc)
-      wanted_by (Some wanted) g z = let b = both (are_stated p.sizes) _ f in (b.0, sizes_are p.sizes c.sizes b.1, wanted, g, z)
+          wanted_by : (o : Option Base) → p.base ≡ o → conversion_to p.sizes o c.base ≡ Some conversion → (are_stated p.sizes ≡ true) × (p.sizes ≡ c.sizes) × (wanted : Base) × (p.base ≡ Some wanted) × (base_conversion p.sizes wanted c.base ≡ Some conversion)
+          wanted_by None g z = absurd (cc)
+          wanted_by (Some wanted) g z = let b = both (are_stated p.sizes) _ f in (b.0, sizes_are p.sizes c.sizes b.1, wanted, g, z)
     by false f o g = let z : (if false then conversion_to p.sizes p.base c.base else None) ≡ Some conversion = subst (λ t. (if t then conversion_to p.sizes p.base c.base else None) ≡ Some conversion) f e in absurd (cc)
 
   stored_kept : (place : TypedPlace) (p c : Checked) (o : Option Conversion) → IsAccepted x (expr_type x vs p.form) p.sizes p.base p.depth → IsAccepted x (expr_type x vs c.form) c.sizes c.base c.depth → (place_type x vs place).type ≡ known p.sizes p.base p.depth → (place_type x vs place).is_assignable ≡ true → storing p c ≡ o → Good AssignedWell (stored_by place p c o)

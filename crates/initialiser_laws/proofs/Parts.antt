@@ -177,22 +177,32 @@ module _ (x : Scene) (vs : Variables) (roomy : 0 < x.too_deep) (fitting_law : Fi
 
   given_more : (inner : Shape) (b : Beginning) (gv : Option Shape) (p : Parts) (e : Option Begun) (a : Begun) → may_be_wanted x inner ≡ true → PartGood b → Given inner gv p → b (Some (element_shape inner gv)) ≡ Ok e → e ≡ Some a → are_stated a.sizes ≡ true → Given inner (given_by (base_of inner) gv (Some a)) (with_part p (Some a))
   given_more inner b None p e a w k g q r h =
-      let m = made b inner e a k w q r in
-      (a.sizes, refl, h, m.fits, λ l.
-      let y = m.well l in
-      let empty : all_have (types_of p.forms) a.sizes (Some (base_of inner)) ≡ true = ap (λ forms. all_have (types_of forms) a.sizes (Some (base_of inner))) g.0 in
-      let none : depth_of (types_of p.forms) ≡ p.depth = ap (λ forms. depth_of (types_of forms)) g.0 ∙ sym g.1 in
-      let z = g.1 in
-      same_more (base_of inner) a.sizes p a y.stand empty none (omega arith) refl y)
+      let m = made b inner e a k w q r in (
+        a.sizes,
+        refl,
+        h,
+        m.fits,
+        λ l.
+            let y = m.well l in
+            let empty : all_have (types_of p.forms) a.sizes (Some (base_of inner)) ≡ true = ap (λ forms. all_have (types_of forms) a.sizes (Some (base_of inner))) g.0 in
+            let none : depth_of (types_of p.forms) ≡ p.depth = ap (λ forms. depth_of (types_of forms)) g.0 ∙ sym g.1 in
+            let z = g.1 in
+            same_more (base_of inner) a.sizes p a y.stand empty none (omega arith) refl y,
+      )
   given_more inner b (Some shape) p e a w k g q r h =
-      let zs = g.0 in
-      (zs, g.1, g.2, g.3, λ l.
-      let same = g.4 l in
-      let wanted : may_be_wanted x shape ≡ true = ap (may_be_wanted x) g.1 ∙ sized_wanted zs (base_of inner) g.2 l (base_wanted inner w) in
-      let m = made b shape e a k wanted q r in
-      let i = sized_sizes zs (base_of inner) shape a g.2 g.1 m in
-      let y : Well (base_of inner) a = subst (λ (base : Base). Well base a) (ap base_of g.1 ∙ sized_base zs (base_of inner)) (m.well (ap sizes_within i ∙ l)) in
-      same_more (base_of inner) zs p a same.stand same.all same.depths same.depth i y)
+      let zs = g.0 in (
+        zs,
+        g.1,
+        g.2,
+        g.3,
+        λ l.
+            let same = g.4 l in
+            let wanted : may_be_wanted x shape ≡ true = ap (may_be_wanted x) g.1 ∙ sized_wanted zs (base_of inner) g.2 l (base_wanted inner w) in
+            let m = made b shape e a k wanted q r in
+            let i = sized_sizes zs (base_of inner) shape a g.2 g.1 m in
+            let y : Well (base_of inner) a = subst (λ (base : Base). Well base a) (ap base_of g.1 ∙ sized_base zs (base_of inner)) (m.well (ap sizes_within i ∙ l)) in
+            same_more (base_of inner) zs p a same.stand same.all same.depths same.depth i y,
+      )
 
   element_after : (inner : Shape) (n : ℕ) (b : Beginning) (before : Elements) (e o : Option Begun) → may_be_wanted x inner ≡ true → PartGood b → Counted inner n before → b (Some (element_shape inner before.given)) ≡ Ok e → as_part e ≡ o → Counted inner (suc n) (with_element (base_of inner) before o)
   element_after inner n b before e None w k i q r = record { count = λ f. absurd (cc); given = λ f. absurd (cc) }

@@ -3,8 +3,8 @@
 ghost use Rattle.initialiser_laws.specs.Laws.{InitialisersAreWell, AssignmentsAreWell, TestsAreBool, ReturnsAreWell};
 
 use ctl_check_laws::{
-    conversion_has_type, fields_stand, fitting_has_type, place_has_type, stated_sizes_fit, typed_is_well_typed,
-    typed_place_is_well_typed,
+    conversion_has_type, fields_stand, fitting_has_type, place_has_type, stated_sizes_fit,
+    typed_is_well_typed, typed_place_is_well_typed,
 };
 
 /// An initialiser that the checker accepts for a shape is well typed, with the sizes and the depth that the checker
