@@ -1,0 +1,6 @@
+-- What the checker says of statements, in the order of reading.
+pub mod Leading
+pub mod Returning
+pub mod Declarations
+pub mod Printing
+pub mod Statements
