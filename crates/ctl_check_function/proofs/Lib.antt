@@ -1,0 +1,4 @@
+mod Capping
+mod Slashes
+mod Units
+mod Defaults
