@@ -1,5 +1,5 @@
 -- Arms one after another, and loops as statements.
-use Rattle.std.proofs.Common.{◌≡◌, ℕ, zero, suc, ◌+◌, ◌<◌, List, [], ◌∷◌, map, length, get_or, drop, Option, Result, Ok, Err, arith, absurd, ap, sym, ◌∙◌, subst}
+use Rattle.std.proofs.Common.{◌≡◌, ℕ, zero, suc, ◌+◌, ◌<◌, List, [], ◌∷◌, map, length, get_or, drop, Option, Result, Ok, Err, arith, ap, sym, ◌∙◌, subst}
 use Rattle.ctl_tree.specs.declared.statement.Statement.{Statement}
 use Rattle.ctl_tree.specs.declared.statement.Statement.TheVariants as variant
 use Rattle.ctl_tree.specs.declared.statement.Statement.TheOpen as layer
