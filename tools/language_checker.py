@@ -202,23 +202,12 @@ class Checker:
         return number
 
     def without_sizes(self, typed):
-        """A size expression with the number in place of each `.size`, since variables have no values yet."""
+        """A size expression with the number in place of each `.size`; nothing in front of one is evaluated."""
         if isinstance(typed, Size):
-            self.check_steps(typed.root)
             return Literal(INT, typed.root.shape.size)
         if not isinstance(typed, tuple) or isinstance(typed, (Literal, Constant)):
             return typed
         return type(typed)(*(self.without_sizes(part) if hasattr(part, "shape") else part for part in typed))
-
-    def check_steps(self, typed):
-        """Traps where an index of a path is outside a stated size."""
-        if isinstance(typed, (Index, Field)):
-            self.check_steps(typed.root)
-        if isinstance(typed, Index):
-            place = value_of(self.program, self.without_sizes(typed.index), 0)
-            size = typed.root.shape.size
-            if place < 0 or size is not None and place >= size:
-                raise Trap("Index", typed.node)
 
     # ---- expressions
 
