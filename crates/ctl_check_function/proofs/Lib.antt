@@ -1,4 +1,5 @@
 mod Capping
 mod Slashes
 mod Units
+mod Bodies
 mod Defaults
