@@ -1,0 +1,5 @@
+mod Tokens
+mod Entries
+mod Fitting
+mod Resting
+mod Sizes

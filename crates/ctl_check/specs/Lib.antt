@@ -1,0 +1,3 @@
+-- What the checker of programs answers, and what it keeps while it defines.
+pub mod Checks
+pub mod Keeps
