@@ -355,7 +355,7 @@ class Checker:
     def made_call(self, form, found, arguments):
         if found[0] == "library":
             return LibraryCall(ROWS[found[1]].result, found[1], arguments, self.node(form))
-        return Call(self.program.functions[found[1]].result, found[1], arguments)
+        return Call(self.program.functions[found[1]].result, found[1], arguments, self.node(form))
 
     def place_of(self, typed):
         """The place that an expression names, None where there is none that can be assigned."""
@@ -492,7 +492,9 @@ class Checker:
             function = Function(name, self.node(form), parameters, self.around.result)
             self.around.in_body = True
             function.body = self.statement(form.parts[-1])
+        function.whole_name = "::".join(self.namespaces + (name,))
         function.depth = self.around.calls + 1
+        function.variables = self.around.variables - len(parameters)
         self.check_function(form, function)
         self.around = None
         number = len(self.program.functions)

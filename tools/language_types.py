@@ -146,6 +146,7 @@ class Call(NamedTuple):
     shape: Any
     function: int
     arguments: tuple
+    node: tuple
 
 
 class LibraryCall(NamedTuple):
@@ -227,7 +228,7 @@ class Parameter(NamedTuple):
 class Function:
     def __init__(self, name, node, parameters, result):
         self.name, self.node, self.parameters, self.result = name, node, parameters, result
-        self.body, self.depth = None, 0
+        self.whole_name, self.body, self.depth, self.variables = name, None, 0, 0
 
 
 class ConstantValue(NamedTuple):

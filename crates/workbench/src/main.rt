@@ -4,6 +4,8 @@
 //! The works: `copy` copies the file's bytes, `dpx` reads the file as an image and writes it again, `lex` cuts it into
 //! tokens, `parse` reads it as a module, and `count` counts its tokens. `pow`, `log2` and `exp2` make a thousand calls of
 //! that function each time, and `called` makes those of `pow` by its name in the language's library; they use no file.
+//! `transforms`, `tones` and `gammas` run one of the three programs of the built-in chain, written out by hand, on a
+//! thousand pixels each time.
 #![tactic(auto)]
 
 use anyhow::{Result, bail};
@@ -13,6 +15,7 @@ use std::alloc::Global;
 use std::env;
 use std::rt::{Env, Files};
 
+mod pixels;
 mod powers;
 mod texts;
 
@@ -46,6 +49,9 @@ fn sum_of(alloc: Global, work: &str, file: &[u8], times: u32) -> Result<u64> {
         "called" => Ok(powers::called_powers(times)),
         "log2" => Ok(powers::logarithms(times)),
         "exp2" => Ok(powers::powers_of_two(times)),
+        "transforms" => Ok(pixels::transforms(times)),
+        "tones" => Ok(pixels::tones(times)),
+        "gammas" => Ok(pixels::gammas(times)),
         _ => bail!("no such work"),
     }
 }
