@@ -1,0 +1,5 @@
+pub mod Bins
+pub mod Cut
+pub mod Places
+pub mod Placed
+pub mod Seen
