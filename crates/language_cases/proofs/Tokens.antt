@@ -1,5 +1,5 @@
 -- A text has no more tokens than bytes.
-use Rattle.std.proofs.Common.{◌≡◌, ℕ, zero, suc, ◌+◌, ◌<◌, ◌≤◌, Bool, true, false, List, [], ◌∷◌, length, take, drop, arith, ap, ◌∙◌, refl, inl, inr, length-take-le}
+use Rattle.std.proofs.Common.{◌≡◌, ℕ, ◌+◌, ◌<◌, ◌≤◌, Bool, true, false, List, [], ◌∷◌, length, take, drop, arith, ap, ◌∙◌, refl, inl, inr, length-take-le}
 use Rattle.std.proofs.lemmas.Bool.{false≢true}
 use Rattle.ctl_tree.specs.declared.sign.Sign.{Sign}
 use Rattle.ctl_tree.specs.declared.sign.Sign.TheVariants.{Plus}

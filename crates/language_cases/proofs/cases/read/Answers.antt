@@ -1,4 +1,4 @@
-use Rattle.std.proofs.Common.{◌≡◌, ◌≤◌, length, ℕ, arith, ap, ◌∙◌, subst}
+use Rattle.std.proofs.Common.{◌≤◌, length, ℕ, arith, ap, ◌∙◌, subst}
 use Rattle.std.proofs.lemmas.List.{length-map}
 use Rattle.ctl_tree.specs.OwnTokens.{OwnTokensBelow}
 use Rattle.fix_num.specs.declared.TheConstants.{FRACTION}

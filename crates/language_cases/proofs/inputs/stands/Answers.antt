@@ -1,4 +1,4 @@
-use Rattle.std.proofs.Common.{◌≡◌, sym, ◌∙◌}
+use Rattle.std.proofs.Common.{sym, ◌∙◌}
 use Rattle.language_cases.proofs.Closed.{stands}
 use Rattle.language_cases.proofs.inputs.stands.Goals as goal
 

@@ -1,4 +1,4 @@
-use Rattle.std.proofs.Common.{◌≡◌, sym, ◌∙◌, ap, List, subst, true}
+use Rattle.std.proofs.Common.{◌≡◌, List, subst, true}
 use Rattle.ctl_types.specs.declared.program.Struct.{Struct}
 use Rattle.ctl_types.specs.declared.program.Parameter.{Parameter}
 use Rattle.ctl_laws.specs.Sound.{inputs_fit}
