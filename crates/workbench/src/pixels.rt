@@ -13,8 +13,11 @@ const STEP: u64 = 0x9e37_79b9_7f4a_7c15;
 
 /// The raws of 0.1, 1.0, 2.0 and 2.2.
 const TENTH: i64 = 429_496_730;
+
 const ONE: i64 = 1 << 32;
+
 const TWO: i64 = 1 << 33;
+
 const GAMMA: i64 = 9_448_928_051;
 
 /// The raws of a matrix of 3 by 3, of eighths.
