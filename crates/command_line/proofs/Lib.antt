@@ -1,0 +1,6 @@
+mod Next
+mod Once
+mod Places
+mod Some
+mod Taking
+mod Wider

@@ -1,0 +1,14 @@
+-- Goals of `following::two_numbers`.
+use Rattle.std.proofs.Common.{ℕ, ℤ, List, [], ◌∷◌, refl, ap, ◌∙◌, subst}
+use Rattle.command_line.specs.Options.{Number}
+use Rattle.command_line.specs.Following.{Raw, Says, Fails}
+use Rattle.command_line.proofs.following.two_numbers.Goals as goal
+
+pub returns-in_default : goal.returns-in_default
+returns-in_default c = λ kinds rest. ([], subst (λ (w : List ℕ). Fails kinds Number w) (c.as_bytes.ensures.value ∙ c.as_str.ensures) (c.in_default.ensures kinds), refl)
+
+pub returns-in_default-number : goal.returns-in_default-number
+returns-in_default-number c = λ kinds rest. (Raw c.in-Some.x ∷ [], (subst (λ (w : List ℕ). Says kinds Number w (Raw c.in-Some.x)) (c.as_bytes.ensures.value ∙ c.as_str.ensures) (c.in-Some.ensures kinds), subst (λ (w : List ℕ). Fails kinds Number w) (c.as_bytes-2.ensures.value ∙ c.as_str-2.ensures) (c.in_default-number.ensures kinds)), refl)
+
+pub returns : goal.returns
+returns c = λ kinds rest. (Raw c.in-Some.x ∷ Raw c.in-Some-number.y ∷ [], (subst (λ (w : List ℕ). Says kinds Number w (Raw c.in-Some.x)) (c.as_bytes.ensures.value ∙ c.as_str.ensures) (c.in-Some.ensures kinds), (subst (λ (w : List ℕ). Says kinds Number w (Raw c.in-Some-number.y)) (c.as_bytes-2.ensures.value ∙ c.as_str-2.ensures) (c.in-Some-number.ensures kinds), tt)), ap (λ (z : ℤ). c.in-Some.x ∷ c.in-Some-number.y ∷ z ∷ []) c.from_raw.ensures)
