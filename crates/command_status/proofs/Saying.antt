@@ -93,6 +93,9 @@ handed_on {said = said} {failures = failures} {hears = hears} {a = a} {b = b} {t
 pub regroup : (a b c d : List ℕ) → a ++ (b ++ c ++ d) ≡ a ++ b ++ c ++ d
 regroup a b c d = sym (append_assoc a (b ++ c) d) ∙ ap (λ (xs : List ℕ). xs ++ d) (sym (append_assoc a b c))
 
+pub regroup_trap : (a b l m c n s o k e : List ℕ) → a ++ ((b ++ l ++ m ++ c ++ n ++ s ++ o ++ k) ++ e) ≡ (((a ++ b) ++ l) ++ (m ++ c)) ++ (n ++ s) ++ (o ++ k ++ e)
+regroup_trap a b l m c n s o k e = simp append_assoc refl
+
 -- a console after all of them
 
 begun_of : (a b : Option (List ℕ)) (t : List ℕ) (r : Result (Unit {0}) Failed) → SaysPiece a b t r → IfSome a (λ before. (n : ℕ) × (b ≡ Some (before ++ take n t)))

@@ -1,6 +1,10 @@
 -- The number of each status, and the line that is said for it.
 use Rattle.std.specs.Prelude.{ℕ, List, [], ◌∷◌, ◌++◌, codes}
 use Rattle.std.specs.Fmt.{decimal}
+use Rattle.ctl_base.specs.declared.kind.TrapKind.{TrapKind}
+use Rattle.ctl_base.specs.declared.kind.TrapKind.TheVariants.{Turns, Index, Assert}
+use Rattle.ctl_scope.specs.declared.kind.CheckKind.{CheckKind}
+use Rattle.ctl_scope.specs.declared.kind.CheckKind.TheVariants.{UnknownName, Recursion, Twice, NotAType, NotAFunction, TooDeep, Arguments, NotAssignable, Mismatch, BadSize, NoReturn, BadEntry, ConstTrap}
 use Rattle.ctl_tree.specs.declared.fault.LexKind.{LexKind}
 use Rattle.ctl_tree.specs.declared.fault.LexKind.TheVariants.{NoToken, OpenComment, OpenText, Literal, NotAscii}
 use Rattle.ctl_tree.specs.declared.fault.SyntaxKind.{SyntaxKind}
@@ -10,9 +14,9 @@ use Rattle.dpx_file.specs.declared.fault.DpxFault.TheVariants.{NotDpx, Truncated
 use Rattle.command_status.specs.declared.status.ImageFault.{ImageFault}
 use Rattle.command_status.specs.declared.status.ImageFault.TheVariants.{Absent, TooLong, Dpx}
 use Rattle.command_status.specs.declared.status.SourceFault.{SourceFault}
-use Rattle.command_status.specs.declared.status.SourceFault.TheVariants.{Lex, Syntax, TooLong as TextTooLong}
+use Rattle.command_status.specs.declared.status.SourceFault.TheVariants.{Lex, Syntax, Cycle, TooLong as TextTooLong, TooMany, Check}
 use Rattle.command_status.specs.declared.status.Status.{Status}
-use Rattle.command_status.specs.declared.status.Status.TheVariants.{Done, Exists, NotFound, Source, Image, ReadFault, WriteFault, Memory, Later}
+use Rattle.command_status.specs.declared.status.Status.TheVariants.{Done, Exists, NotFound, Source, Image, Trap, ReadFault, WriteFault, Memory, Later}
 
 -- the number that the program ends with
 abbrev pub code_of : Status → ℕ
@@ -21,6 +25,7 @@ code_of Exists = 3
 code_of (NotFound name) = 4
 code_of (Source file n fault) = 5
 code_of (Image fault) = 8
+code_of (Trap n column stage kind node) = 9
 code_of (ReadFault name) = 10
 code_of WriteFault = 11
 code_of Memory = 12
@@ -39,11 +44,36 @@ abbrev pub syntax_kind : SyntaxKind → List ℕ
 syntax_kind NotHere = codes "NotHere"
 syntax_kind TooDeep = codes "Depth"
 
+-- the name of a rule that a form breaks
+abbrev pub check_kind : CheckKind → List ℕ
+check_kind UnknownName = codes "UnknownName"
+check_kind Recursion = codes "Recursion"
+check_kind Twice = codes "Twice"
+check_kind NotAType = codes "NotAType"
+check_kind NotAFunction = codes "NotAFunction"
+check_kind TooDeep = codes "TooDeep"
+check_kind Arguments = codes "Arguments"
+check_kind NotAssignable = codes "NotAssignable"
+check_kind Mismatch = codes "Mismatch"
+check_kind BadSize = codes "BadSize"
+check_kind NoReturn = codes "NoReturn"
+check_kind BadEntry = codes "BadEntry"
+check_kind ConstTrap = codes "ConstTrap"
+
+-- the name of a kind of trap
+abbrev pub trap_kind : TrapKind → List ℕ
+trap_kind Turns = codes "Turns"
+trap_kind Index = codes "Index"
+trap_kind Assert = codes "Assert"
+
 -- the name of a fault of the text: that of the inner kind, where there is one
 abbrev pub source_kind : SourceFault → List ℕ
 source_kind (Lex kind) = lex_kind kind
 source_kind (Syntax kind) = syntax_kind kind
+source_kind Cycle = codes "Cycle"
 source_kind TextTooLong = codes "TooLong"
+source_kind TooMany = codes "TooMany"
+source_kind (Check kind) = check_kind kind
 
 -- the name of a fault of the format
 abbrev pub dpx_kind : DpxFault → List ℕ
@@ -76,6 +106,8 @@ message_of destination Exists = message (destination ++ codes " exists")
 message_of destination (NotFound name) = message (name ++ codes " not found")
 message_of destination (Source file line fault) = message (file ++ codes " line " ++ decimal line ++ codes ": " ++ source_kind fault)
 message_of destination (Image fault) = message (codes "image: " ++ image_kind fault)
+message_of destination (Trap n column stage kind node) =
+    message (codes "line " ++ decimal n ++ codes " column " ++ decimal column ++ codes " stage " ++ decimal stage ++ codes ": " ++ trap_kind kind)
 message_of destination (ReadFault name) = message (codes "read fault on " ++ name)
 message_of destination WriteFault = message (codes "write fault")
 message_of destination Memory = message (codes "out of memory")

@@ -6,7 +6,7 @@ ghost use Rattle.command_status.specs.Messages.{message, message_of};
 ghost use Rattle.command_status.specs.Means.{IsSaid};
 ghost use Rattle.command_status.specs.Spoken.{IsHeard, Speaks};
 
-use crate::kinds::{image_kind, source_kind};
+use crate::kinds::{image_kind, source_kind, trap_kind};
 use crate::status::Status;
 use itoa::Buffer;
 use outside::{Console, Failed};
@@ -49,6 +49,13 @@ fn say_message<C: Console>(
             image_kind(fault),
             b"\n",
         ),
+        Status::Trap {
+            line,
+            column,
+            stage,
+            kind,
+            node: _,
+        } => say_trap(console, *line, *column, *stage, trap_kind(kind)),
         Status::ReadFault { name } => say_three(
             console,
             b"ctlrender: read fault on ",
@@ -74,6 +81,31 @@ fn say_source<C: Console>(
     say_three(console, COMMAND, file, b" line ")?;
     say_three(console, digits.format(line).as_bytes(), b": ", kind)?;
     console.say(b"\n")
+}
+
+// Says at which pixel which trap is.
+fn say_trap<C: Console>(
+    console: &mut C,
+    line: u32,
+    column: u32,
+    stage: u32,
+    kind: &[u8],
+) -> Result<(), Failed>
+    ensures { IsSaid C.said C.failures C.hears console.old console.new (message (codes "line " ++ decimal line ++ codes " column " ++ decimal column ++ codes " stage " ++ decimal stage ++ codes ": " ++ kind.now)) result }
+{
+    say_number(console, b"ctlrender: line ", line)?;
+    say_number(console, b" column ", column)?;
+    say_number(console, b" stage ", stage)?;
+    say_three(console, b": ", kind, b"\n")
+}
+
+// Says a number behind a piece.
+fn say_number<C: Console>(console: &mut C, before: &[u8], number: u32) -> Result<(), Failed>
+    ensures { IsSaid C.said C.failures C.hears console.old console.new (before.now ++ decimal number) result }
+{
+    let mut digits = Buffer::new();
+    console.say(before)?;
+    console.say(digits.format(number).as_bytes())
 }
 
 // Says three pieces, up to the first at which the console fails.

@@ -1,6 +1,7 @@
 //! How the command ends.
 
-use ctl_base::{Memory, TextArg};
+use ctl_base::{Memory, Node, TextArg, TrapKind};
+use ctl_scope::CheckKind;
 use ctl_tree::{LexKind, SyntaxKind};
 use dpx_file::DpxFault;
 
@@ -11,8 +12,14 @@ pub enum SourceFault {
     Lex(LexKind),
     /// The tokens spell no module of a nesting that is allowed.
     Syntax(SyntaxKind),
+    /// It imports a module that is being loaded already.
+    Cycle,
     /// The text has more bytes than are allowed.
     TooLong,
+    /// It imports one module more than are allowed.
+    TooMany,
+    /// A form breaks a rule of the language.
+    Check(CheckKind),
 }
 
 /// Why the source gives no image.
@@ -33,11 +40,11 @@ pub enum Status {
     Done,
     /// The destination is held already.
     Exists,
-    /// The text is not held.
+    /// The text of the stage, or a module that it imports, is not held.
     NotFound {
         name: TextArg,
     },
-    /// The text is refused at this line, and at line 0 where no place of it is at fault.
+    /// A text is refused at this line, and at line 0 where no place of it is at fault.
     Source {
         file: TextArg,
         line: u32,
@@ -47,7 +54,15 @@ pub enum Status {
     Image {
         fault: ImageFault,
     },
-    /// The text or the source cannot be read, or whether the destination is held cannot be told.
+    /// The run of a pixel traps, the first in the order of lines and columns. All three are counted from 0.
+    Trap {
+        line: u32,
+        column: u32,
+        stage: u32,
+        kind: TrapKind,
+        node: Node,
+    },
+    /// A text or the source cannot be read, or whether the destination is held cannot be told.
     ReadFault {
         name: TextArg,
     },
@@ -55,7 +70,7 @@ pub enum Status {
     WriteFault,
     /// Want of memory.
     Memory,
-    /// The words or the text are of a form that is not built yet.
+    /// The words, or the entry of the stage, are of a form that is not built yet.
     Later,
 }
 
@@ -84,6 +99,7 @@ impl Status {
             Status::NotFound { .. } => 4,
             Status::Source { .. } => 5,
             Status::Image { .. } => 8,
+            Status::Trap { .. } => 9,
             Status::ReadFault { .. } => 10,
             Status::WriteFault => 11,
             Status::Memory => 12,

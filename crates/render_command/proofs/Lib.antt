@@ -1,8 +1,5 @@
 -- The lemmas of this crate.
-mod Codes
-mod Pixels
-mod Meanings
+mod Actions
 mod Verdicts
 mod Stepping
-mod Answered
 mod Ended

@@ -1,57 +1,32 @@
 -- One step that reads after another.
-use Rattle.std.proofs.Common.{◌≡◌, ℕ, false, List, [], ◌∷◌, ◌++◌, take, Option, Some, None, Result, Ok, Err, refl, ap, sym, ◌∙◌, subst, append_assoc, append-nil}
-use Rattle.outside.specs.Calls.{FileCall, Fetch, file_call}
-use Rattle.outside.specs.Causes.{Rose}
-use Rattle.outside.specs.Files.{Held, FetchHasCause, is_failed}
+use Rattle.std.proofs.Common.{◌≡◌, ℕ, List, [], ◌∷◌, ◌++◌, length, Bool, true, false, Option, Some, None, IfSome, Result, Ok, Err, cond, nat_le, if◌then◌else◌, refl, ap, sym, ◌∙◌, subst}
+use Rattle.std.specs.FinMap as map
+use Rattle.ctl_base.specs.declared.limits.TheConstants.{IMAGE_BYTES}
 use Rattle.outside.specs.declared.files.Fetched.{Fetched}
+use Rattle.outside.specs.declared.files.Fetched.TheVariants.{Bytes, Absent, TooLong}
+use Rattle.dpx_file.specs.Plain.{PlainImage}
+use Rattle.dpx_file.specs.Reading.{dpx_reading}
+use Rattle.command_status.specs.declared.status.ImageFault.TheVariants as image
+use Rattle.outside.specs.Calls.{FileCall, FileCallKind, Fetch, file_call}
+use Rattle.outside.specs.Causes.{Rose}
+use Rattle.outside.specs.Files.{Held, holds, fetched, fetch_of, FetchHasCause, is_failed}
 use Rattle.outside.specs.declared.files.FetchFault.{FetchFault}
-use Rattle.outside.specs.declared.files.FetchFault.TheVariants.{Memory as NoMemory}
+use Rattle.outside.specs.declared.files.FetchFault.TheVariants as fetch_fault
 use Rattle.outside.specs.ReadsAlone.{ReadsAlone}
-use Rattle.command_words.specs.Command.{Command}
+use Rattle.command_status.specs.Outcomes.{Outcome, Did, Lost, FailedOn, NoMemory, Stopped, outcome_of}
 use Rattle.command_status.specs.declared.status.Status.{Status}
-use Rattle.command_status.specs.declared.status.Status.TheVariants.{Done, Exists, NotFound, Source, Image, ReadFault, WriteFault, Memory, Later}
-use Rattle.first_text.specs.declared.tree.FirstText.{FirstText}
-use Rattle.render_command.specs.Calls.{Calls, to_text, to_source}
-use Rattle.render_command.specs.Means.{AsksTo, CallsTo, CountedRead, NoFault, ReadsText, ReadStep, StopCounted, stops}
-use Rattle.render_command.specs.Verdict.{TextMeans}
-
--- nothing was asked
+use Rattle.command_status.specs.declared.status.Status.TheVariants.{Exists, Image, ReadFault, Memory}
+use Rattle.ctl_tree.specs.Units.{SourceUnit}
+use Rattle.module_path.specs.LoadOrder.{LoadOrder}
+use Rattle.module_path.specs.Loading.{CountsFault, IsNoReadFault}
+use Rattle.module_path.specs.declared.fault.LoadFault.{LoadFault}
+use Rattle.module_path.specs.declared.fault.LoadFault.TheVariants as load
+use Rattle.render_command.specs.Verdict.{status_of, loads, free_of, image_in, image_of}
+use Rattle.render_command.specs.Actions.{Answers, is_told, given_up, Asks, is_answered, box_fails, not_asked, no_room, Then, stops, goes_on}
+use Rattle.render_command.specs.Means.{ReadStep, Seen, Tells, TellsBy, CountedRead, StopCounted, NoFault, NoFaultBy}
 
 pub reads_nothing : {B : Type 0} (held : B → Option Held) (lost : B → ℕ) (serves : B → List ℕ → ℕ → Type 0) (b : B) → ReadsAlone held lost serves b b
 reads_nothing held lost serves b = record { held_stays = refl; lost_stays = refl; serves_stays = λ to n h. h }
-
--- memory ran out before the call
-pub no_memory : {B X : Type 0} (held : B → Option Held) (asked : B → List FileCall) (faults lost : B → ℕ) (serves : B → List ℕ → ℕ → Type 0) (b : B) (command : Command) (n : ℕ) (done : List FileCall)
-    → ReadStep {X = X} held asked faults lost serves b b (Some command) (take n (to_source command)) done (Err Memory)
-no_memory held asked faults lost serves b command n done = record {
-  reads = reads_nothing held lost serves b;
-  counted = refl;
-  served = λ to m h. tt;
-  asks = λ begun e. (take n (to_source command), e, (n, refl));
-}
-
--- one call
-
-pub went : {B X : Type 0} (held : B → Option Held) (asked : B → List FileCall) (faults lost : B → ℕ) (serves : B → List ℕ → ℕ → Type 0) (a b : B) (command : Option Command) (before : List FileCall) (call : FileCall) (x : X)
-    → ReadsAlone held lost serves a b → faults b ≡ faults a → asked b ≡ asked a ++ call ∷ [] → ReadStep held asked faults lost serves a b command before (before ++ call ∷ []) (Ok x)
-went held asked faults lost serves a b command before call x reads quiet asks = record {
-  reads = reads;
-  counted = quiet;
-  served = λ to n h. tt;
-  asks = λ begun e. (before ++ call ∷ [], asks ∙ ap (λ cs. cs ++ call ∷ []) e ∙ append_assoc begun before (call ∷ []), refl);
-}
-
-pub ended : {B X : Type 0} (held : B → Option Held) (asked : B → List FileCall) (faults lost : B → ℕ) (serves : B → List ℕ → ℕ → Type 0) (a b : B) (command : Option Command) (before done : List FileCall) (call : FileCall) (status : Status)
-    → ReadsAlone held lost serves a b → StopCounted (faults a) (faults b) status → ((to : List ℕ) (n : ℕ) → serves a to n → NoFault {X = X} (Err status)) → asked b ≡ asked a ++ call ∷ []
-    → Calls command status (before ++ call ∷ []) → ReadStep {X = X} held asked faults lost serves a b command before done (Err status)
-ended held asked faults lost serves a b command before done call status reads counted served asks calls = record {
-  reads = reads;
-  counted = counted;
-  served = served;
-  asks = λ begun e. (before ++ call ∷ [], asks ∙ ap (λ cs. cs ++ call ∷ []) e ∙ append_assoc begun before (call ∷ []), calls);
-}
-
--- two steps
 
 reads_then : {B : Type 0} (held : B → Option Held) (lost : B → ℕ) (serves : B → List ℕ → ℕ → Type 0) (a b c : B) → ReadsAlone held lost serves a b → ReadsAlone held lost serves b c → ReadsAlone held lost serves a c
 reads_then held lost serves a b c h k = record {
@@ -60,125 +35,213 @@ reads_then held lost serves a b c h k = record {
   serves_stays = λ to n s. k.serves_stays to n (h.serves_stays to n s);
 }
 
-counted_from : {X : Type 0} (l m n : ℕ) (r : Result X Status) → m ≡ l → CountedRead m n r → CountedRead l n r
-counted_from l m n r e h = let P : ℕ → Type 0 = λ k. CountedRead k n r in subst P e h
+-- ---- what a call tells
 
-asks_then : {X Y : Type 0} (xs ys zs : List FileCall) (command : Option Command) (before between done : List FileCall) (x : X) (r : Result Y Status)
-    → AsksTo xs ys command before between (Ok x) → AsksTo ys zs command between done r → AsksTo xs zs command before done r
-asks_then xs ys zs command before between done x r h k = λ begun e. let p = h begun e in k begun (p.1 ∙ ap (λ calls. begun ++ calls) p.2)
+looked_at : (held : Held) (said name : List ℕ) (found : Bool) → said ≡ name → found ≡ holds held said → holds held name ≡ found
+looked_at held said name found e h = ap (λ n. holds held n) (sym e) ∙ sym h
 
-pub then_step : {B X Y : Type 0} (held : B → Option Held) (asked : B → List FileCall) (faults lost : B → ℕ) (serves : B → List ℕ → ℕ → Type 0) (a b c : B) (command : Option Command) (before between done : List FileCall) (x : X) (r : Result Y Status)
-    → ReadStep held asked faults lost serves a b command before between (Ok x) → ReadStep held asked faults lost serves b c command between done r → ReadStep held asked faults lost serves a c command before done r
-then_step held asked faults lost serves a b c command before between done x r h k = record {
-  reads = reads_then held lost serves a b c h.reads k.reads;
-  counted = counted_from (faults a) (faults b) (faults c) r h.counted k.counted;
-  served = λ to n s. k.served to n (h.reads.serves_stays to n s);
-  asks = asks_then (asked a) (asked b) (asked c) command before between done x r h.asks k.asks;
-}
+-- whether the name is held
+pub looked : (told : Option Held) (held : Held) (said name : List ℕ) (found : Bool) → told ≡ Some held → said ≡ name → IfSome told (λ files. found ≡ holds files said) → holds held name ≡ found
+looked None held said name found t e h = absurd cc
+looked (Some files) held said name found t e h = let same : files ≡ held = cc in looked_at held said name found e (subst (λ (f : Held). found ≡ holds f said) same h)
 
-no_fault_of : (X Y : Type 0) (status : Status) → NoFault {X = X} (Err status) → NoFault {X = Y} (Err status)
-no_fault_of X Y Done h = tt
-no_fault_of X Y Exists h = tt
-no_fault_of X Y (NotFound name) h = tt
-no_fault_of X Y (Source file line fault) h = tt
-no_fault_of X Y (Image fault) h = tt
-no_fault_of X Y (ReadFault name) h = h
-no_fault_of X Y WriteFault h = tt
-no_fault_of X Y Memory h = tt
-no_fault_of X Y Later h = tt
+-- the destination is free, or it is not
+abbrev pub free_answer : Bool → Result (Unit {0}) Status
+free_answer true = Err Exists
+free_answer false = Ok tt
 
--- a step that stops stops what it is a part of
-pub stopped : {B X Y : Type 0} (held : B → Option Held) (asked : B → List FileCall) (faults lost : B → ℕ) (serves : B → List ℕ → ℕ → Type 0) (a b : B) (command : Option Command) (before between done : List FileCall) (status : Status)
-    → ReadStep {X = X} held asked faults lost serves a b command before between (Err status) → ReadStep {X = Y} held asked faults lost serves a b command before done (Err status)
-stopped {X = X} {Y = Y} held asked faults lost serves a b command before between done status h = record {
-  reads = h.reads;
-  counted = h.counted;
-  served = λ to n s. no_fault_of X Y status (h.served to n s);
-  asks = h.asks;
-}
+free_holds : (held : Held) (name : List ℕ) (found : Bool) → holds held name ≡ found → free_of held name ≡ free_answer found
+free_holds held name true h = ap (λ (b : Bool). if b then Err Exists else Ok tt) h
+free_holds held name false h = ap (λ (b : Bool). if b then Err Exists else Ok tt) h
 
--- the text stops, which asks nothing of the files
+pub free_is : (held : Held) (name : List ℕ) (found other : Bool) → holds held name ≡ found → found ≡ other → free_of held name ≡ free_answer other
+free_is held name found other h e = free_holds held name other (h ∙ e)
 
-text_counted : (file text : List ℕ) (faults faults' : ℕ) (status : Status) → ReadsText file text (Err status) → faults' ≡ faults → StopCounted faults faults' status
-unfolding TextMeans
-text_counted file text faults faults' Done h e = absurd h
-text_counted file text faults faults' WriteFault h e = absurd h
-text_counted file text faults faults' (ReadFault name) h e = absurd h
-text_counted file text faults faults' Memory h e = e
-text_counted file text faults faults' Exists h e = e
-text_counted file text faults faults' (NotFound name) h e = e
-text_counted file text faults faults' (Source name line fault) h e = e
-text_counted file text faults faults' (Image fault) h e = e
-text_counted file text faults faults' Later h e = e
+-- the image of what was fetched
+abbrev pub image_got : Fetched → Result PlainImage Status
+image_got (Bytes bytes) = image_in (dpx_reading bytes)
+image_got Absent = Err (Image image.Absent)
+image_got (TooLong limit) = Err (Image image.TooLong)
 
-text_no_fault : (X : Type 0) (file text : List ℕ) (status : Status) → ReadsText file text (Err status) → NoFault {X = X} (Err status)
-unfolding TextMeans
-text_no_fault X file text Done h = tt
-text_no_fault X file text WriteFault h = tt
-text_no_fault X file text (ReadFault name) h = absurd h
-text_no_fault X file text Memory h = tt
-text_no_fault X file text Exists h = tt
-text_no_fault X file text (NotFound name) h = tt
-text_no_fault X file text (Source name line fault) h = tt
-text_no_fault X file text (Image fault) h = tt
-text_no_fault X file text Later h = tt
+image_found : (o : Option (List ℕ)) → image_of o ≡ image_got (fetched o IMAGE_BYTES)
+image_found None = refl
+image_found (Some bytes) = by (nat_le (length bytes) IMAGE_BYTES) where
+  by : (t : Bool) → (if t then image_in (dpx_reading bytes) else Err (Image image.TooLong)) ≡ image_got (cond t (Bytes bytes) (TooLong IMAGE_BYTES))
+  by true = refl
+  by false = refl
 
-text_calls : (command : Command) (text : List ℕ) (status : Status) → ReadsText command.text text (Err status) → Calls (Some command) status (to_text command)
-unfolding TextMeans
-text_calls command text Done h = absurd h
-text_calls command text WriteFault h = absurd h
-text_calls command text (ReadFault name) h = absurd h
-text_calls command text Memory h = (2, refl)
-text_calls command text Exists h = absurd h
-text_calls command text (NotFound name) h = absurd h
-text_calls command text (Source name line fault) h = (h.0, refl)
-text_calls command text (Image fault) h = absurd h
-text_calls command text Later h = refl
+pub fetched_image : (told : Option Held) (held : Held) (said name : List ℕ) (got : Fetched) → told ≡ Some held → said ≡ name → IfSome told (λ files. got ≡ fetch_of files said IMAGE_BYTES) → image_of (map.get held name) ≡ image_got got
+fetched_image None held said name got t e h = absurd cc
+fetched_image (Some files) held said name got t e h =
+    let same : files ≡ held = cc in
+    image_found (map.get held name) ∙ ap (λ (n : List ℕ). image_got (fetch_of held n IMAGE_BYTES)) (sym e) ∙ ap (λ (f : Held). image_got (fetch_of f said IMAGE_BYTES)) (sym same) ∙ ap image_got (sym h)
 
-pub text_stopped : {B X Y : Type 0} (held : B → Option Held) (asked : B → List FileCall) (faults lost : B → ℕ) (serves : B → List ℕ → ℕ → Type 0) (a b : B) (command : Command) (before done : List FileCall) (text : List ℕ) (x : X) (status : Status)
-    → ReadStep held asked faults lost serves a b (Some command) before (to_text command) (Ok x) → ReadsText command.text text (Err status) → ReadStep {X = Y} held asked faults lost serves a b (Some command) before done (Err status)
-text_stopped {Y = Y} held asked faults lost serves a b command before done text x status h k = record {
-  reads = h.reads;
-  counted = text_counted command.text text (faults a) (faults b) status k h.counted;
-  served = λ to n s. text_no_fault Y command.text text status k;
-  asks = λ begun e. let p = h.asks begun e in (to_text command, p.1 ∙ ap (λ calls. begun ++ calls) p.2, text_calls command text status k);
-}
+-- a fetch that failed, and one for which memory was wanting
 
--- memory ran out after the last call that reads
-pub image_memory : {B X Y : Type 0} (held : B → Option Held) (asked : B → List FileCall) (faults lost : B → ℕ) (serves : B → List ℕ → ℕ → Type 0) (a b : B) (command : Command) (before done : List FileCall) (x : X)
-    → ReadStep held asked faults lost serves a b (Some command) before (to_source command) (Ok x) → ReadStep {X = Y} held asked faults lost serves a b (Some command) before done (Err Memory)
-image_memory held asked faults lost serves a b command before done x h = record {
-  reads = h.reads;
-  counted = h.counted;
-  served = λ to n s. tt;
-  asks = λ begun e. let p = h.asks begun e in (to_source command, p.1 ∙ ap (λ calls. begun ++ calls) p.2, (3, refl));
-}
+pub fetch_rose : (faults faults' : ℕ) (fault : FetchFault) → fault ≡ fetch_fault.Failed → FetchHasCause {T = Fetched} faults faults' (Err fault) → Rose faults faults'
+fetch_rose faults faults' fault e h = let P : FetchFault → Type 0 = λ f. FetchHasCause {T = Fetched} faults faults' (Err f) in subst P e h
 
--- the same step, by the answer that is handed on
-pub answered : {B X : Type 0} (held : B → Option Held) (asked : B → List FileCall) (faults lost : B → ℕ) (serves : B → List ℕ → ℕ → Type 0) (a b : B) (command : Option Command) (before done : List FileCall) (r s : Result X Status)
-    → r ≡ s → ReadStep held asked faults lost serves a b command before done r → ReadStep held asked faults lost serves a b command before done s
-answered {X = X} held asked faults lost serves a b command before done r s e h =
-    let P : Result X Status → Type 0 = λ r. ReadStep held asked faults lost serves a b command before done r in subst P e h
-
--- what is answered, where the box tells
-
-pub stops_so : {claim claim' : Status → Type 0} (status : Status) → ((s : Status) → claim s → claim' s) → stops claim status → stops claim' status
-stops_so Done f h = absurd h
-stops_so WriteFault f h = absurd h
-stops_so (ReadFault name) f h = tt
-stops_so Memory f h = tt
-stops_so Exists f h = f Exists h
-stops_so (NotFound name) f h = f (NotFound name) h
-stops_so (Source file line fault) f h = f (Source file line fault) h
-stops_so (Image fault) f h = f (Image fault) h
-stops_so Later f h = f Later h
-
--- a fetch for which memory was wanting did not fail
-
-pub fetch_quiet : (faults faults' : ℕ) (fault : FetchFault) → fault ≡ NoMemory → FetchHasCause {T = Fetched} faults faults' (Err fault) → faults' ≡ faults
+pub fetch_quiet : (faults faults' : ℕ) (fault : FetchFault) → fault ≡ fetch_fault.Memory → FetchHasCause {T = Fetched} faults faults' (Err fault) → faults' ≡ faults
 fetch_quiet faults faults' fault e h = let P : FetchFault → Type 0 = λ f. FetchHasCause {T = Fetched} faults faults' (Err f) in subst P e h
 
-pub fetch_asked : (asked asked' : List FileCall) (said name : List ℕ) (fault : FetchFault) → fault ≡ NoMemory → asked' ≡ asked ++ file_call Fetch said (is_failed (Err fault)) ∷ [] → said ≡ name
-    → asked' ≡ asked ++ file_call Fetch name false ∷ []
-fetch_asked asked asked' said name fault e h is =
-    h ∙ ap (λ (f : FetchFault). asked ++ file_call Fetch said (is_failed (Err f)) ∷ []) e ∙ ap (λ (n : List ℕ). asked ++ file_call Fetch n false ∷ []) is
+pub fetch_asked : (asked asked' : List FileCall) (said : List ℕ) (fault other : FetchFault) → fault ≡ other → asked' ≡ asked ++ file_call Fetch said (is_failed (Err fault)) ∷ [] → asked' ≡ asked ++ file_call Fetch said (is_failed (Err other)) ∷ []
+fetch_asked asked asked' said fault other e h = h ∙ ap (λ (f : FetchFault). asked ++ file_call Fetch said (is_failed (Err f)) ∷ []) e
+
+-- a part of what a box is: what steps say of it
+module _ {B : Type 0} (held : B → Option Held) (asked : B → List FileCall) (faults lost : B → ℕ) (serves : B → List ℕ → ℕ → Type 0) where
+  abbrev Reads : {X A : Type 0} → B → B → (X → A) → (Held → List FileCall → List FileCall → Result A Status → Type 0) → Result X Status → Type 0
+  Reads {X = X} {A = A} old new view action result = ReadStep {B = B} {X = X} {A = A} held asked faults lost serves old new view action result
+
+  counted_from : {X : Type 0} (l m n : ℕ) (r : Result X Status) → m ≡ l → CountedRead m n r → CountedRead l n r
+  counted_from l m n r e h = let P : ℕ → Type 0 = λ k. CountedRead k n r in subst P e h
+
+  does_then : {Y A C : Type 0} (view : Y → C) (first : List FileCall → List FileCall → Result A Status → Type 0) (second : A → List FileCall → List FileCall → Result C Status → Type 0) (before between after : List FileCall) (x : A) (r : Result Y Status)
+      → first before between (Ok x) → Seen view (second x between after) r → Seen view (Then first second before after) r
+  does_then view first second before between after x (Ok y) h k = goes_on h k
+  does_then view first second before between after x (Err status) h k = goes_on h k
+
+  -- one step after another
+  pub then_step : {X Y A C : Type 0} {a b c : B} (see : X → A) (view : Y → C) (first : Held → List FileCall → List FileCall → Result A Status → Type 0) (second : Held → A → List FileCall → List FileCall → Result C Status → Type 0) (x : X) (r : Result Y Status)
+      → Reads a b see first (Ok x) → Reads b c view (λ h. second h (see x)) r → Reads a c view (λ h. Then (first h) (second h)) r
+  then_step {a = a} {b = b} {c = c} see view first second x r h k = record {
+    reads = reads_then held lost serves a b c h.reads k.reads;
+    counted = counted_from (faults a) (faults b) (faults c) r h.counted k.counted;
+    served = λ to n s. k.served to n (h.reads.serves_stays to n s);
+    does = λ all told. does_then view (first all) (second all) (asked a) (asked b) (asked c) (see x) r (h.does all told) (k.does all (h.reads.held_stays ∙ told));
+  }
+
+  -- a step that stops stops what it begins
+  pub stopped_step : {X Y A C : Type 0} {a b : B} (see : X → A) (view : Y → C) (first : Held → List FileCall → List FileCall → Result A Status → Type 0) (second : Held → A → List FileCall → List FileCall → Result C Status → Type 0) (status : Status)
+      → Reads a b see first (Err status) → Reads a b view (λ h. Then (first h) (second h)) (Err status)
+  stopped_step see view first second status h = record {
+    reads = h.reads;
+    counted = h.counted;
+    served = h.served;
+    does = λ all told. stops (h.does all told);
+  }
+
+  -- a step that asks nothing
+  tells_counted : (told : Type 0) (status : Status) (o : Outcome) (n : ℕ) → TellsBy told status o → StopCounted n n o
+  tells_counted told status Did n h = absurd h
+  tells_counted told status Lost n h = absurd h
+  tells_counted told status (FailedOn name) n h = absurd h
+  tells_counted told status NoMemory n h = refl
+  tells_counted told status Stopped n h = refl
+
+  tells_served : (told : Type 0) (status : Status) (o : Outcome) → TellsBy told status o → NoFaultBy o
+  tells_served told status Did h = absurd h
+  tells_served told status Lost h = absurd h
+  tells_served told status (FailedOn name) h = absurd h
+  tells_served told status NoMemory h = tt
+  tells_served told status Stopped h = tt
+
+  tells_does : {A : Type 0} (told : Result A Status → Type 0) (status : Status) (o : Outcome) (calls : List FileCall) → TellsBy (told (Err status)) status o → Answers told calls calls (Err status)
+  tells_does told status Did calls h = absurd h
+  tells_does told status Lost calls h = absurd h
+  tells_does told status (FailedOn name) calls h = absurd h
+  tells_does {A = A} told status NoMemory calls h = let P : Status → Type 0 = λ s. Answers {A = A} told calls calls (Err s) in subst P (sym h) given_up
+  tells_does told status Stopped calls h = is_told h
+
+  pub told_step : {X A : Type 0} (b : B) (view : X → A) (told : Result A Status → Type 0) (r : Result X Status) → Tells view told r → Reads b b view (λ h. Answers told) r
+  told_step b view told (Ok x) t = record {
+    reads = reads_nothing held lost serves b;
+    counted = refl;
+    served = λ to n s. tt;
+    does = λ all is. is_told t;
+  }
+  told_step b view told (Err status) t = record {
+    reads = reads_nothing held lost serves b;
+    counted = tells_counted (told (Err status)) status (outcome_of status) (faults b) t;
+    served = λ to n s. tells_served (told (Err status)) status (outcome_of status) t;
+    does = λ all is. tells_does told status (outcome_of status) (asked b) t;
+  }
+
+  -- ---- one call
+
+  answered_does : {X A : Type 0} (view : X → A) (kind : FileCallKind) (name : List ℕ) (told : Result A Status) (before after : List FileCall) (r : Result X Status) → Seen view (λ s. told ≡ s) r → after ≡ before ++ file_call kind name false ∷ []
+      → Seen view (Asks kind name told before after) r
+  answered_does view kind name told before after (Ok x) h e = is_answered h e
+  answered_does view kind name told before after (Err status) h e = is_answered h e
+
+  -- it is answered
+  pub answered_step : {X A : Type 0} (a b : B) (view : X → A) (kind : FileCallKind) (said name : List ℕ) (told : Held → Result A Status) (r : Result X Status) → ReadsAlone held lost serves a b → CountedRead (faults a) (faults b) r → NoFault r
+      → asked b ≡ asked a ++ file_call kind said false ∷ [] → said ≡ name → ((h : Held) → held a ≡ Some h → Seen view (λ s. told h ≡ s) r) → Reads a b view (λ h. Asks kind name (told h)) r
+  answered_step a b view kind said name told r reads counted quiet asks is seen = record {
+    reads = reads;
+    counted = counted;
+    served = λ to n s. quiet;
+    does = λ h e. answered_does view kind name (told h) (asked a) (asked b) r (seen h e) (asks ∙ ap (λ n. asked a ++ file_call kind n false ∷ []) is);
+  }
+
+  -- the box fails
+  pub failed_step : {X A : Type 0} (a b : B) (view : X → A) (kind : FileCallKind) (said name : List ℕ) (told : Held → Result A Status) → ReadsAlone held lost serves a b → Rose (faults a) (faults b) → ((to : List ℕ) (n : ℕ) → serves a to n → ⊥)
+      → asked b ≡ asked a ++ file_call kind said true ∷ [] → said ≡ name → Reads {X = X} a b view (λ h. Asks kind name (told h)) (Err (ReadFault name))
+  failed_step a b view kind said name told reads rose never asks is = record {
+    reads = reads;
+    counted = rose;
+    served = λ to n s. never to n s;
+    does = λ h e. box_fails (asks ∙ ap (λ n. asked a ++ file_call kind n true ∷ []) is);
+  }
+
+  -- memory runs out before it
+  pub unasked_step : {X A : Type 0} (b : B) (view : X → A) (kind : FileCallKind) (name : List ℕ) (told : Held → Result A Status) → Reads {X = X} b b view (λ h. Asks kind name (told h)) (Err Memory)
+  unasked_step b view kind name told = record {
+    reads = reads_nothing held lost serves b;
+    counted = refl;
+    served = λ to n s. tt;
+    does = λ h e. not_asked;
+  }
+
+  -- memory runs out after it
+  pub roomless_step : {X A : Type 0} (a b : B) (view : X → A) (kind : FileCallKind) (said name : List ℕ) (told : Held → Result A Status) → ReadsAlone held lost serves a b → faults b ≡ faults a → asked b ≡ asked a ++ file_call kind said false ∷ [] → said ≡ name
+      → Reads {X = X} a b view (λ h. Asks kind name (told h)) (Err Memory)
+  roomless_step a b view kind said name told reads quiet asks is = record {
+    reads = reads;
+    counted = quiet;
+    served = λ to n s. tt;
+    does = λ h e. no_room (asks ∙ ap (λ n. asked a ++ file_call kind n false ∷ []) is);
+  }
+
+  -- ---- loading
+
+  fault_counted : (f f' : ℕ) (e : LoadFault) → CountsFault f f' e → StopCounted f f' (outcome_of (status_of e))
+  fault_counted f f' (load.Cycle file name) h = h
+  fault_counted f f' (load.TooMany file) h = h
+  fault_counted f f' (load.NotFound name) h = h
+  fault_counted f f' (load.ReadFault name) h = h
+  fault_counted f f' (load.TooLong file) h = h
+  fault_counted f f' (load.Lex file at n kind) h = h
+  fault_counted f f' (load.Syntax file at n kind) h = h
+  fault_counted f f' load.Memory h = h
+
+  fault_quiet : (e : LoadFault) → IsNoReadFault e → NoFaultBy (outcome_of (status_of e))
+  fault_quiet (load.Cycle file name) h = tt
+  fault_quiet (load.TooMany file) h = tt
+  fault_quiet (load.NotFound name) h = tt
+  fault_quiet (load.ReadFault name) h = h
+  fault_quiet (load.TooLong file) h = tt
+  fault_quiet (load.Lex file at n kind) h = tt
+  fault_quiet (load.Syntax file at n kind) h = tt
+  fault_quiet load.Memory h = tt
+
+  -- all is loaded
+  pub loaded_step : (a b : B) (path root : List ℕ) (units : List SourceUnit) → ReadsAlone held lost serves a b → faults b ≡ faults a → ((h : Held) → held a ≡ Some h → LoadOrder h path root (asked a) (asked b) (Ok units))
+      → Reads a b (λ u. u) (λ h. loads h path root) (Ok units)
+  loaded_step a b path root units reads quiet does = record {
+    reads = reads;
+    counted = quiet;
+    served = λ to n s. tt;
+    does = λ h e. (Ok units, does h e, refl);
+  }
+
+  -- it is not
+  pub unloaded_step : (a b : B) (path root : List ℕ) (fault : LoadFault) (status : Status) → ReadsAlone held lost serves a b → CountsFault (faults a) (faults b) fault → ((to : List ℕ) (n : ℕ) → serves a to n → IsNoReadFault fault)
+      → ((h : Held) → held a ≡ Some h → LoadOrder h path root (asked a) (asked b) (Err fault)) → status ≡ status_of fault → Reads {X = List SourceUnit} a b (λ u. u) (λ h. loads h path root) (Err status)
+  unloaded_step a b path root fault status reads counted served does is =
+      let P : Status → Type 0 = λ s. Reads {X = List SourceUnit} a b (λ u. u) (λ h. loads h path root) (Err s) in
+      subst P (sym is) (record {
+        reads = reads;
+        counted = fault_counted (faults a) (faults b) fault counted;
+        served = λ to n s. fault_quiet fault (served to n s);
+        does = λ h e. (Err fault, does h e, refl);
+      })

@@ -1,124 +1,66 @@
 -- What words ask of the files has one verdict.
-use Rattle.std.proofs.Common.{◌≡◌, ℕ, List, Option, Some, None, Result, Ok, Err, IfOk, inl, inr, refl, ap, sym, ◌∙◌, subst}
-use Rattle.std.specs.FinMap as map
-use Rattle.ctl_base.specs.declared.limits.TheConstants.{NESTING}
-use Rattle.ctl_lexer.specs.Laws.{TokensOrFault}
-use Rattle.ctl_tree.specs.declared.definition.Module.{Module}
-use Rattle.ctl_tree.specs.declared.token.Token.{Token}
-use Rattle.ctl_tree.specs.Lexemes.{lexemes_of}
-use Rattle.ctl_tree.specs.Lines.{line_at, line_of_place}
-use Rattle.ctl_tree.specs.Modules.{IsModule}
-use Rattle.ctl_tree.specs.Tokens.{StandsFor}
-use Rattle.fix_num.specs.declared.TheConstants.{FRACTION}
-use Rattle.grammar_machine.specs.Laws.{ModuleOrFault}
-use Rattle.command_words.specs.Command.{Command, command_of}
-use Rattle.command_status.specs.declared.status.SourceFault.{SourceFault}
-use Rattle.command_status.specs.declared.status.SourceFault.TheVariants.{Lex, Syntax}
-use Rattle.command_status.specs.declared.status.Status.{Status}
-use Rattle.command_status.specs.declared.status.Status.TheVariants.{Source, Later}
-use Rattle.dpx_file.specs.Plain.{PlainImage}
-use Rattle.dpx_file.specs.Writing.{dpx_writing}
-use Rattle.first_text.specs.declared.tree.FirstText.{FirstText}
+use Rattle.std.proofs.Common.{◌≡◌, ℕ, List, Option, Some, None, Result, Ok, Err, refl, ap, sym, ◌∙◌, subst}
+use Rattle.std.specs.FinMap as files
+use Rattle.ctl_tree.specs.Units.{SourceUnit}
+use Rattle.ctl_types.specs.Scoping.{ProgramForm}
+use Rattle.ctl_types.specs.Run.{Fault, Trapped, Wrong}
+use Rattle.outside.specs.Calls.{FileCall, Fetch, Has}
 use Rattle.outside.specs.Files.{Held}
-use Rattle.render_command.specs.Rendered.{rendered}
-use Rattle.render_command.specs.Verdict.{OneVerdict, SomeVerdict, JudgesCommand, JudgesWords, Plan, HasSourceFault, TextMeans, image_of, loaded, plan_of}
-use Rattle.render_command.proofs.Meanings.{Laws, one_meaning}
+use Rattle.module_path.specs.Laws as loading
+use Rattle.module_path.specs.declared.fault.LoadFault.{LoadFault}
+use Rattle.module_path.specs.declared.fault.LoadFault.TheVariants as load
+use Rattle.command_words.specs.Command.{Command, command_of}
+use Rattle.command_status.specs.declared.status.Status.{Status}
+use Rattle.dpx_file.specs.Plain.{PlainImage}
+use Rattle.render_tree.specs.PixelRun.{StageForm}
+use Rattle.render_tree.specs.RenderedImage.{PixelFault, rendered}
+use Rattle.render_command.specs.Actions.{Answers, Asks, Then, IsTold, AtMostOne, lifted}
+use Rattle.render_command.specs.Verdict.{Plan, IsTrap, IsPlan, OneVerdict, Judges, command_in, free_of, look_for, status_of, loaded_as, loads, checked, entered, image_at, image_of, rendering, units_of, program_of, planned, planned_by, planned_at}
+use Rattle.render_command.proofs.Actions.{answers_one, lifted_one, asks_one, then_one}
 
-same_plan : Laws → (held : Held) (command : Command) (text : Result (List ℕ) Status) (r s : Result FirstText Status)
-    → IfOk text (λ text. TextMeans command.text text r) → IfOk text (λ text. TextMeans command.text text s) → plan_of held command text r ≡ plan_of held command text s
-unfolding plan_of
-same_plan laws held command (Err e) r s h k = refl
-same_plan laws held command (Ok text) r s h k = ap (λ meant. plan_of held command (Ok text) meant) (one_meaning laws command.text text r s h k)
+-- what was loaded is told where its status is
+fault_told : (e : LoadFault) → IsTold {A = List SourceUnit} (Err (status_of e)) → loading.IsToldFault e
+fault_told (load.Cycle file name) t = tt
+fault_told (load.TooMany file) t = tt
+fault_told (load.NotFound name) t = tt
+fault_told (load.ReadFault name) t = absurd t
+fault_told (load.TooLong file) t = tt
+fault_told (load.Lex file at n kind) t = tt
+fault_told (load.Syntax file at n kind) t = tt
+fault_told load.Memory t = absurd t
 
-one_verdict_of : Laws → (held : Held) (command : Option Command) (v w : Result Plan Status) → JudgesWords held command v → JudgesWords held command w → v ≡ w
-one_verdict_of laws held None v w h k = h ∙ sym k
-one_verdict_of laws held (Some command) v w h k = sym h.2 ∙ same_plan laws held command (loaded held command) h.0 k.0 h.1 k.1 ∙ k.2
+told_as : (told : Result (List SourceUnit) LoadFault) (answer : Result (List SourceUnit) Status) → loaded_as told ≡ answer → IsTold answer → loading.IsTold told
+told_as (Ok units) answer e t = tt
+told_as (Err fault) answer e t = fault_told fault (let P : Result (List SourceUnit) Status → Type 0 = λ r. IsTold r in subst P (sym e) t)
 
-pub one_verdict : Laws → OneVerdict
-one_verdict laws = λ held words v w h k. one_verdict_of laws held (command_of words) v w h k
+loads_one : loading.AtMostOne → (held : Held) (path root : List ℕ) → AtMostOne (loads held path root)
+loads_one law held path root = λ before after elsewhere r r' h k t t'.
+    let q = law held path root before after elsewhere h.0 k.0 h.1 k.1 (told_as h.0 r h.2 t) (told_as k.0 r' k.2 t') in
+    (sym h.2 ∙ ap loaded_as q.0 ∙ k.2, q.1)
 
--- the verdict where the text was read
-judged : (held : Held) (command : Command) (text : List ℕ) (meant : Result FirstText Status) (v : Result Plan Status) → loaded held command ≡ Ok text → TextMeans command.text text meant
-    → plan_of held command (Ok text) meant ≡ v → JudgesCommand held command v
-judged held command text meant v e means is =
-    let P : Result (List ℕ) Status → Type 0 = λ r. (meant : Result FirstText Status) × IfOk r (λ text. TextMeans command.text text meant) × (plan_of held command r meant ≡ v) in
-    subst P (sym e) (meant, means, is)
+one_trap : (row column : ℕ) (fault : Fault) (s t : Result Plan Status) → IsTrap row column fault s → IsTrap row column fault t → s ≡ t
+one_trap row column (Trapped kind node) s t h k = sym h ∙ k
+one_trap row column Wrong s t h k = absurd h
 
--- the steps before the text stop
-pub not_loaded : (held : Held) (command : Command) (status : Status) → loaded held command ≡ Err status → JudgesCommand held command (Err status)
-unfolding plan_of
-not_loaded held command status e =
-    let P : Result (List ℕ) Status → Type 0 = λ r. (meant : Result FirstText Status) × IfOk r (λ text. TextMeans command.text text meant) × (plan_of held command r meant ≡ Err status) in
-    subst P (sym e) (Err Later, tt, refl)
+one_plan : (destination : List ℕ) (r : Result PlainImage PixelFault) (s t : Result Plan Status) → IsPlan destination r s → IsPlan destination r t → s ≡ t
+one_plan destination (Ok image) s t h k = sym h ∙ k
+one_plan destination (Err f) s t h k = one_trap f.row f.column f.fault s t h k
 
-text_stops : (held : Held) (command : Command) (text : List ℕ) (status : Status) → plan_of held command (Ok text) (Err status) ≡ Err status
-unfolding plan_of
-text_stops held command text status = refl
+rendering_one : (destination : List ℕ) (stage : StageForm) (image : PlainImage) → AtMostOne (rendering destination stage image)
+rendering_one destination stage image = answers_one (IsPlan destination (rendered stage image)) (one_plan destination (rendered stage image))
 
--- the text stops
-pub not_read : (held : Held) (command : Command) (text : List ℕ) (status : Status) → loaded held command ≡ Ok text → TextMeans command.text text (Err status) → JudgesCommand held command (Err status)
-not_read held command text status e means = judged held command text (Err status) (Err status) e means (text_stops held command text status)
+units_one : loading.AtMostOne → (held : Held) (path : List ℕ) (command : Command) → AtMostOne (units_of held path command)
+units_one law held path command = then_one (look_for held command.destination) (λ free. loads held path command.text) (asks_one Has command.destination (free_of held command.destination)) (λ free. loads_one law held path command.text)
 
-image_stops : (held : Held) (command : Command) (text : List ℕ) (tree : FirstText) (status : Status) → image_of (map.get held command.source) ≡ Err status
-    → plan_of held command (Ok text) (Ok tree) ≡ Err status
-unfolding plan_of
-image_stops held command text tree status e = rw e refl
+planned_at_one : (held : Held) (command : Command) (stage : StageForm) → AtMostOne (planned_at held command stage)
+planned_at_one held command stage = then_one (image_at held command.source) (rendering command.destination stage) (asks_one Fetch command.source (image_of (files.get held command.source))) (rendering_one command.destination stage)
 
--- the source stops
-pub no_image : (held : Held) (command : Command) (text : List ℕ) (tree : FirstText) (status : Status) → loaded held command ≡ Ok text → TextMeans command.text text (Ok tree)
-    → image_of (map.get held command.source) ≡ Err status → JudgesCommand held command (Err status)
-no_image held command text tree status e means is = judged held command text (Ok tree) (Err status) e means (image_stops held command text tree status is)
+planned_by_one : (held : Held) (command : Command) (program : ProgramForm) → AtMostOne (planned_by held command program)
+planned_by_one held command program = then_one (lifted entered program) (planned_at held command) (lifted_one entered program) (planned_at_one held command)
 
-image_stands : (held : Held) (command : Command) (text : List ℕ) (tree : FirstText) (image : PlainImage) → image_of (map.get held command.source) ≡ Ok image
-    → plan_of held command (Ok text) (Ok tree) ≡ Ok (record { destination = command.destination; bytes = dpx_writing (rendered tree image) })
-unfolding plan_of
-image_stands held command text tree image e = rw e refl
+planned_one : loading.AtMostOne → (held : Held) (path : List ℕ) (command : Command) → AtMostOne (planned held path command)
+planned_one law held path command =
+    then_one (program_of held path command) (planned_by held command) (then_one (units_of held path command) (lifted checked) (units_one law held path command) (lifted_one checked)) (planned_by_one held command)
 
--- no step stops
-pub stands : (held : Held) (command : Command) (text : List ℕ) (tree : FirstText) (image : PlainImage) (plan : Plan) → loaded held command ≡ Ok text → TextMeans command.text text (Ok tree)
-    → image_of (map.get held command.source) ≡ Ok image → record { destination = command.destination; bytes = dpx_writing (rendered tree image) } ≡ plan → JudgesCommand held command (Ok plan)
-stands held command text tree image plan e means is same = judged held command text (Ok tree) (Ok plan) e means (image_stands held command text tree image is ∙ ap Ok same)
-
--- There is a verdict.
-
--- each text has tokens or a fault, and its tokens spell a module or have a fault
-pub record SomeLaws : Type 0 where
-  pub tokens_or_fault : TokensOrFault
-  pub module_or_fault : ModuleOrFault
-
--- tokens that spell a module spell a tree or none
-module_means : (file text : List ℕ) (tokens : List Token) (form : Module) → StandsFor FRACTION tokens text → IsModule (lexemes_of text tokens) (Some NESTING) form
-    → ((r : Result FirstText Status) → TextMeans file text r → ⊥) → ⊥
-unfolding TextMeans
-module_means file text tokens form stand spelt none =
-    none (Err Later) (record {
-      tokens = tokens;
-      form = form;
-      source = record { stand = stand; spelt = spelt };
-      spells = λ tree h. none (Ok tree) (record { tokens = tokens; form = form; source = record { stand = stand; spelt = spelt }; spells = h });
-    })
-
-fault_means : (file text : List ℕ) (line : ℕ) (fault : SourceFault) → HasSourceFault text line fault → ((r : Result FirstText Status) → TextMeans file text r → ⊥) → ⊥
-unfolding TextMeans
-fault_means file text line fault h none = none (Err (Source file line fault)) (refl, h)
-
-some_meaning : SomeLaws → (file text : List ℕ) → ((r : Result FirstText Status) → TextMeans file text r → ⊥) → ⊥
-some_meaning laws file text none = elim (laws.tokens_or_fault FRACTION text) [
-  | inl found ↦ elim (laws.module_or_fault (lexemes_of text found.0) NESTING) [
-    | inl spelt ↦ module_means file text found.0 spelt.0 found.1 spelt.1 none
-    | inr fault ↦ fault_means file text (line_of_place text found.0 fault.1) (Syntax fault.0) (fault.1, record { tokens = found.0; stand = found.1; fault = fault.2; in_line = refl }) none
-  ]
-  | inr fault ↦ fault_means file text (line_at text fault.0) (Lex fault.1) (fault.0, record { fault = fault.2; in_line = refl }) none
-]
-
-some_of_loaded : SomeLaws → (held : Held) (command : Command) (text : Result (List ℕ) Status) → loaded held command ≡ text → ((v : Result Plan Status) → JudgesCommand held command v → ⊥) → ⊥
-some_of_loaded laws held command (Err status) e none = none (Err status) (not_loaded held command status e)
-some_of_loaded laws held command (Ok text) e none =
-    some_meaning laws command.text text (λ r means. none (plan_of held command (Ok text) r) (judged held command text r (plan_of held command (Ok text) r) e means refl))
-
-some_of_command : SomeLaws → (held : Held) (command : Option Command) → ((v : Result Plan Status) → JudgesWords held command v → ⊥) → ⊥
-some_of_command laws held None none = none (Err Later) refl
-some_of_command laws held (Some command) none = some_of_loaded laws held command (loaded held command) refl none
-
-pub some_verdict : SomeLaws → SomeVerdict
-some_verdict laws = λ held words none. some_of_command laws held (command_of words) none
+pub one_verdict : loading.AtMostOne → OneVerdict
+one_verdict law = λ held path words. then_one (lifted command_in (command_of words)) (planned held path) (lifted_one command_in (command_of words)) (planned_one law held path)

@@ -1,103 +1,146 @@
 -- What the words ask of the files: the steps in their order, each with the status at which it stops.
-use Rattle.std.specs.Prelude.{◌≡◌, ℕ, List, length, Option, Some, None, Result, Ok, Err, IfOk, nat_le, if◌then◌else◌}
+use Rattle.std.specs.Prelude.{◌≡◌, ℕ, List, length, Option, Some, None, Result, Ok, Err, nat_le, if◌then◌else◌}
 use Rattle.std.specs.FinMap as files
-use Rattle.ctl_base.specs.Answers.{◌>>=◌, ◌>>◌}
-use Rattle.ctl_base.specs.declared.limits.TheConstants.{TEXT_BYTES, IMAGE_BYTES}
-use Rattle.ctl_tree.specs.declared.definition.Module.{Module}
-use Rattle.ctl_tree.specs.declared.token.Token.{Token}
-use Rattle.ctl_tree.specs.Lexemes.{lexemes_of}
-use Rattle.ctl_parser.specs.Sources.{IsSource, HasByteFault, HasTokenFault}
+use Rattle.ctl_base.specs.declared.limits.TheConstants.{IMAGE_BYTES}
+use Rattle.ctl_tree.specs.Units.{SourceUnit, line_of_node}
+use Rattle.ctl_types.specs.Scoping.{ProgramForm, IsProgram}
+use Rattle.ctl_types.specs.Run.{Fault, Trapped, Wrong}
+use Rattle.ctl_check_rules.specs.Faults.{Fault as RuleFault}
+use Rattle.ctl_check_function.specs.Programs.{checked_program}
+use Rattle.ctl_check.specs.Checks.{file_of_node}
+use Rattle.outside.specs.Calls.{FileCall, Fetch, Has}
 use Rattle.outside.specs.Files.{Held, holds}
+use Rattle.module_path.specs.LoadOrder.{LoadOrder}
+use Rattle.module_path.specs.declared.fault.LoadFault.{LoadFault}
+use Rattle.module_path.specs.declared.fault.LoadFault.TheVariants as load
 use Rattle.dpx_file.specs.Plain.{PlainImage}
 use Rattle.dpx_file.specs.Reading.{dpx_reading}
 use Rattle.dpx_file.specs.declared.fault.DpxFault.{DpxFault}
 use Rattle.dpx_file.specs.Writing.{dpx_writing}
 use Rattle.command_words.specs.Command.{Command, command_of}
-use Rattle.first_text.specs.Spelling.{SpellsTree}
-use Rattle.first_text.specs.declared.tree.FirstText.{FirstText}
 use Rattle.command_status.specs.declared.status.ImageFault.TheVariants.{Absent, TooLong, Dpx}
-use Rattle.command_status.specs.declared.status.SourceFault.{SourceFault}
-use Rattle.command_status.specs.declared.status.SourceFault.TheVariants.{Lex, Syntax, TooLong as TextTooLong}
+use Rattle.command_status.specs.declared.status.SourceFault.TheVariants as source
 use Rattle.command_status.specs.declared.status.Status.{Status}
-use Rattle.command_status.specs.declared.status.Status.TheVariants.{Exists, NotFound, Source, Image, Later}
-use Rattle.render_command.specs.Rendered.{rendered}
+use Rattle.command_status.specs.declared.status.Status.TheVariants.{Exists, NotFound, Source, Image, Trap, ReadFault, Memory, Later}
+use Rattle.render_tree.specs.PixelRun.{StageForm}
+use Rattle.render_tree.specs.Stages.{stage_of}
+use Rattle.render_tree.specs.RenderedImage.{PixelFault, rendered}
+use Rattle.render_command.specs.Actions.{Action, Step, Answers, Asks, lifted, ◌>>=◌, AtMostOne, AtLeastOne}
+
+-- ---- the steps
+
+-- the words are a command
+abbrev pub command_in : Option Command → Result Command Status
+command_in None = Err Later
+command_in (Some command) = Ok command
 
 -- the destination is not held
 abbrev pub free_of : Held → List ℕ → Result (Unit {0}) Status
 free_of held name = if holds held name then Err Exists else Ok tt
 
--- the bytes of the text
-abbrev pub text_of : Option (List ℕ) → List ℕ → Result (List ℕ) Status
-text_of None name = Err (NotFound name)
-text_of (Some bytes) name = if nat_le (length bytes) TEXT_BYTES then Ok bytes else Err (Source name 0 TextTooLong)
+abbrev pub look_for : Held → List ℕ → Action (Unit {0})
+look_for held name = Asks Has name (free_of held name)
 
--- the steps before the text is read: its bytes
-unfoldable pub loaded : Held → Command → Result (List ℕ) Status
-loaded held command = do
-  free_of held command.destination
-  text_of (files.get held command.text) command.text
+-- the status of what keeps modules from being loaded; line 0 where no token is at fault
+abbrev pub status_of : LoadFault → Status
+status_of (load.Cycle file name) = Source file 0 source.Cycle
+status_of (load.TooMany file) = Source file 0 source.TooMany
+status_of (load.NotFound name) = NotFound name
+status_of (load.ReadFault name) = ReadFault name
+status_of (load.TooLong file) = Source file 0 source.TooLong
+status_of (load.Lex file at n kind) = Source file n (source.Lex kind)
+status_of (load.Syntax file at n kind) = Source file n (source.Syntax kind)
+status_of load.Memory = Memory
 
--- what a file of the format reads as
+abbrev pub loaded_as : Result (List SourceUnit) LoadFault → Result (List SourceUnit) Status
+loaded_as (Ok units) = Ok units
+loaded_as (Err fault) = Err (status_of fault)
+
+-- the modules of a text in load order
+abbrev pub loads : Held → List ℕ → List ℕ → Action (List SourceUnit)
+loads held path root before after answer = (told : Result (List SourceUnit) LoadFault) × LoadOrder held path root before after told × (loaded_as told ≡ answer)
+
+-- the program that modules mean, or their first form that breaks a rule
+abbrev pub checked_as : List SourceUnit → Result ProgramForm RuleFault → Result ProgramForm Status
+checked_as units (Ok program) = Ok program
+checked_as units (Err fault) = Err (Source (file_of_node units fault.node) (line_of_node units fault.node) (source.Check fault.kind))
+
+abbrev pub checked : List SourceUnit → Result ProgramForm Status
+checked units = checked_as units (checked_program units)
+
+-- the stage of a program: other entries are not built yet
+abbrev pub entered_at : Option StageForm → Result StageForm Status
+entered_at None = Err Later
+entered_at (Some stage) = Ok stage
+
+abbrev pub entered : ProgramForm → Result StageForm Status
+entered program = entered_at (stage_of program)
+
+-- the image of the source
 abbrev pub image_in : Result PlainImage DpxFault → Result PlainImage Status
 image_in (Ok image) = Ok image
 image_in (Err fault) = Err (Image (Dpx fault))
 
--- the image of the source
 abbrev pub image_of : Option (List ℕ) → Result PlainImage Status
 image_of None = Err (Image Absent)
 image_of (Some bytes) = if nat_le (length bytes) IMAGE_BYTES then image_in (dpx_reading bytes) else Err (Image TooLong)
 
--- the text is a module, and its tokens spell this tree or no tree
-pub record HasTree (text : List ℕ) (tree : Option FirstText) : Type 0 where
-  pub tokens : List Token
-  pub form : Module
-  pub source : IsSource text tokens form
-  pub spells : SpellsTree (lexemes_of text tokens) tree
-
--- the text has this fault in this line
-abbrev pub HasSourceFault : List ℕ → ℕ → SourceFault → Type 0
-HasSourceFault text line (Lex kind) = (at : ℕ) × HasByteFault text at line kind
-HasSourceFault text line (Syntax kind) = (place : ℕ) × HasTokenFault text place line kind
-HasSourceFault text line TextTooLong = ⊥
-
--- What the text of a file means: a tree, or its fault, or Later where it is a module and no first text.
-unfoldable pub TextMeans : List ℕ → List ℕ → Result FirstText Status → Type 0
-TextMeans file text (Ok tree) = HasTree text (Some tree)
-TextMeans file text (Err Later) = HasTree text None
-TextMeans file text (Err (Source name line fault)) = (name ≡ file) × HasSourceFault text line fault
-TextMeans file text (Err status) = ⊥
+abbrev pub image_at : Held → List ℕ → Action PlainImage
+image_at held name = Asks Fetch name (image_of (files.get held name))
 
 -- what is to be stored, and under which name
 pub record Plan : Type 0 where
   pub destination : List ℕ
   pub bytes : List ℕ
 
--- the plan, or the status of the first step that stops, where the text means `meant`
-unfoldable pub plan_of : Held → Command → Result (List ℕ) Status → Result FirstText Status → Result Plan Status
-plan_of held command text meant = do
-  text
-  tree ← meant
-  image ← image_of (files.get held command.source)
-  Ok (record { destination = command.destination; bytes = dpx_writing (rendered tree image) })
+abbrev pub plan_for : List ℕ → PlainImage → Plan
+plan_for destination image = record { destination = destination; bytes = dpx_writing image }
 
--- The command asks this of the files.
-abbrev pub JudgesCommand : Held → Command → Result Plan Status → Type 0
-JudgesCommand held command verdict =
-    (meant : Result FirstText Status) × IfOk (loaded held command) (λ text. TextMeans command.text text meant) × (plan_of held command (loaded held command) meant ≡ verdict)
+-- the trap of a pixel in a row and a column. That a form has no meaning is no answer: no checked program meets it.
+abbrev pub IsTrap : ℕ → ℕ → Fault → Result Plan Status → Type 0
+IsTrap row column (Trapped kind node) answer = Err (Trap row column 0 kind node) ≡ answer
+IsTrap row column Wrong answer = ⊥
 
--- the same of words, of which none but a command's are taken
-abbrev pub JudgesWords : Held → Option Command → Result Plan Status → Type 0
-JudgesWords held None verdict = verdict ≡ Err Later
-JudgesWords held (Some command) verdict = JudgesCommand held command verdict
+abbrev pub IsPlan : List ℕ → Result PlainImage PixelFault → Result Plan Status → Type 0
+IsPlan destination (Ok image) answer = Ok (plan_for destination image) ≡ answer
+IsPlan destination (Err f) answer = IsTrap f.row f.column f.fault answer
 
--- The words ask this of the files.
-abbrev pub Judges : Held → List (List ℕ) → Result Plan Status → Type 0
-Judges held words verdict = JudgesWords held (command_of words) verdict
+-- the rendered image in its written form
+abbrev pub rendering : List ℕ → StageForm → Step PlainImage Plan
+rendering destination stage image = Answers (IsPlan destination (rendered stage image))
+
+-- ---- their order
+
+abbrev pub units_of : Held → List ℕ → Command → Action (List SourceUnit)
+units_of held path command = look_for held command.destination >>= (λ free. loads held path command.text)
+
+abbrev pub program_of : Held → List ℕ → Command → Action ProgramForm
+program_of held path command = units_of held path command >>= lifted checked
+
+abbrev pub planned_at : Held → Command → Step StageForm Plan
+planned_at held command stage = image_at held command.source >>= rendering command.destination stage
+
+abbrev pub planned_by : Held → Command → Step ProgramForm Plan
+planned_by held command program = lifted entered program >>= planned_at held command
+
+abbrev pub planned : Held → List ℕ → Command → Action Plan
+planned held path command = program_of held path command >>= planned_by held command
+
+-- What the words ask of what is held, where modules are sought along a path.
+abbrev pub Judges : Held → List ℕ → List (List ℕ) → Action Plan
+Judges held path words = lifted command_in (command_of words) >>= planned held path
+
+-- ---- one verdict
 
 -- what words ask of the files is one thing
 abbrev pub OneVerdict : Type 0
-OneVerdict = (held : Held) (words : List (List ℕ)) (verdict other : Result Plan Status) → Judges held words verdict → Judges held words other → verdict ≡ other
+OneVerdict = (held : Held) (path : List ℕ) (words : List (List ℕ)) → AtMostOne (Judges held path words)
 
--- Whatever the words and the files, there is a verdict: that there is none is impossible.
+-- what is checked keeps the rules of programs
+abbrev pub CheckedKeepRules : Type 0
+CheckedKeepRules = (held : Held) (path root : List ℕ) (before after : List FileCall) (units : List SourceUnit) (program : ProgramForm) → LoadOrder held path root before after (Ok units)
+    → checked_program units ≡ Ok program → IsProgram program
+
+-- whatever the words and the files, there is a verdict
 abbrev pub SomeVerdict : Type 0
-SomeVerdict = (held : Held) (words : List (List ℕ)) → ((verdict : Result Plan Status) → Judges held words verdict → ⊥) → ⊥
+SomeVerdict = (held : Held) (path : List ℕ) (words : List (List ℕ)) → AtLeastOne (Judges held path words)

@@ -1,9 +1,8 @@
-//! The command: its steps over the files in their order, and the image that is rendered.
+//! The command: its steps over the files in their order.
 #![tactic(auto)]
 
 mod order;
-mod picture;
+mod steps;
 
 pub use command_status::{ImageFault, SourceFault, Status};
-pub use order::{one_verdict, render, some_verdict};
-pub use picture::render_image;
+pub use order::{one_verdict, render};

@@ -4,40 +4,40 @@ use crate::fixture::{HALF, HALF_PIXEL, PIXEL, WORDS, dpx, ends, given, refused, 
 use ctl_base::Memory;
 use std::alloc::Global;
 
-/// The head of every first text.
+/// The head of an entry.
 const MAIN: &str =
     "void main(input varying float rIn, input varying float gIn, input varying float bIn, output varying float rOut, output varying float gOut, output varying float bOut)";
 
-/// Three parts of a text, and the word that is stored, if any. The texts without one are modules.
-type Text = ([&'static str; 3], Option<u32>);
+/// Three parts of a text, and the word that is stored.
+type Text = ([&'static str; 3], u32);
 
 static TEXTS: [Text; 11] = [
     (
         ["", MAIN, " { rOut = rIn + gIn - 0.25; bOut = bIn * bIn; }"],
-        Some(0xBFC0_0400),
+        0xBFC0_0400,
     ),
-    (["", MAIN, " { }"], Some(0)),
-    (["", MAIN, "{rOut=1.0;rOut=0.5;}"], Some(0x8000_0000)),
+    (["", MAIN, " { }"], 0),
+    (["", MAIN, "{rOut=1.0;rOut=0.5;}"], 0x8000_0000),
     (
         [
             "",
             MAIN,
             " { rOut = rIn * 0.5; /* half */ gOut = gIn * 0.5; bOut = bIn * 0.5; }\n",
         ],
-        Some(HALF_PIXEL),
+        HALF_PIXEL,
     ),
-    (["", MAIN, " { rOut = rIn * 0.5f; }"], None),
-    (["", MAIN, " { rOut = rIn * 1; }"], None),
-    (["", MAIN, " { rOut = (rIn); }"], None),
-    (["", MAIN, " { ; }"], None),
+    (["", MAIN, " { rOut = rIn * 0.5f; }"], 0x8000_0000),
+    (["", MAIN, " { rOut = rIn * 1; }"], 0xFFC0_0000),
+    (["", MAIN, " { rOut = (rIn); }"], 0xFFC0_0000),
+    (["", MAIN, " { ; }"], 0),
     // Comments change nothing.
-    (["// half\n", HALF, ""], Some(HALF_PIXEL)),
-    (["", HALF, "/* void main( @ \" */"], Some(HALF_PIXEL)),
-    (["/**//*//*/", HALF, "// */ @"], Some(HALF_PIXEL)),
+    (["// half\n", HALF, ""], HALF_PIXEL),
+    (["", HALF, "/* void main( @ \" */"], HALF_PIXEL),
+    (["/**//*//*/", HALF, "// */ @"], HALF_PIXEL),
 ];
 
 #[test]
-fn texts_give_their_pixel_or_are_not_built(rt: HostRuntime) -> Result<(), Memory> {
+fn texts_give_their_pixel(rt: HostRuntime) -> Result<(), Memory> {
     for (parts, pixel) in TEXTS.iter().copied() {
         let [before, text, after] = parts;
         let text = format!(in rt.alloc(); "{before}{text}{after}")?;
@@ -46,13 +46,10 @@ fn texts_give_their_pixel_or_are_not_built(rt: HostRuntime) -> Result<(), Memory
     Ok(())
 }
 
-// Whether the text stores that word for the source of one pixel, or with none is not built.
-fn gives(alloc: Global, text: &[u8], pixel: Option<u32>) -> Result<bool, Memory> {
+// Whether the text stores that word for the source of one pixel.
+fn gives(alloc: Global, text: &[u8], pixel: u32) -> Result<bool, Memory> {
     let source = dpx(alloc, 1, 1, &[PIXEL])?;
-    match pixel {
-        Some(word) => stores_pixel(alloc, text, &source, word),
-        None => is_refused(alloc, text, &source, 13, "not built yet"),
-    }
+    stores_pixel(alloc, text, &source, pixel)
 }
 
 // Whether the text is refused with this line, before the source is asked for, and the files stay.
@@ -70,12 +67,11 @@ fn is_refused(
 /// A text, the number that the program ends with, and the line that is said.
 type Refused = (&'static [u8], u8, &'static str);
 
-/// Modules of other forms.
-static LATER: [Refused; 6] = [
+/// Modules without an entry that is built.
+static LATER: [Refused; 5] = [
     (b"", 13, "not built yet"),
     (b"// nothing\n", 13, "not built yet"),
     (b"const float a = 1.0;", 13, "not built yet"),
-    (b"ctlversion 1;\nimport \"other\";\n", 13, "not built yet"),
     (b"struct Pair { float a; float b; };", 13, "not built yet"),
     (b"void main() { }", 13, "not built yet"),
 ];
@@ -165,7 +161,7 @@ fn nested(alloc: Global, depth: u32) -> Result<Vec<u8>, Memory> {
 fn a_text_has_at_most_2_to_24_bytes(rt: HostRuntime) -> Result<(), Memory> {
     let mut text = Vec::from_slice(rt.alloc(), HALF.as_bytes())?;
     fill(&mut text, b' ', (1 << 24) - HALF.len() as u32)?;
-    assert!(rt; gives(rt.alloc(), &text, Some(HALF_PIXEL))?);
+    assert!(rt; gives(rt.alloc(), &text, HALF_PIXEL)?);
     text.push(b' ')?;
     assert!(rt; is_too_long(rt.alloc(), &text)?);
     Ok(())

@@ -1,8 +1,6 @@
-//! Texts: their tokens and trees, first texts, and modules by name over files in memory. Tests alone.
+//! Texts: their tokens and trees, and modules by name over files in memory. Tests alone.
 #![tactic(auto)]
 
-#[cfg(test)]
-mod first_texts;
 #[cfg(test)]
 mod modules;
 #[cfg(test)]
