@@ -1,0 +1,2 @@
+-- What holds of images that are read.
+pub mod Laws

@@ -1,0 +1,13 @@
+pub mod Verdicts
+pub mod Constants
+pub mod Shapes
+pub mod LibraryStands
+pub mod Grown
+pub mod GrownTypes
+pub mod GrownScopes
+pub mod Growing
+pub mod Scopes
+pub mod Keeping
+pub mod Heads
+pub mod Programs
+pub mod Loading

@@ -1,0 +1,2 @@
+-- What holds of whole programs.
+pub mod Laws
