@@ -1,9 +1,7 @@
 #!/usr/bin/env python3
 """The cases of the program command_cases, and what the command does in each, from the independent checker and evaluator.
 
-    command_cases_tables.py cases     the file crates/command_cases/data/cases
-    command_cases_tables.py stdout    the file crates/command_cases/stdout
-
+It prints the files data/cases and stdout of crates/command_cases.
 A case is its name, the module path, the pixels of the source, the files, of which the first is the text of the stage,
 and the files in load order, or what keeps them from being loaded. What is known of a case from elsewhere stands beside
 it, as the red codes, or as the line that is said, and is compared.
@@ -237,14 +235,14 @@ one("nine", "float q[9]; rOut = n(q) * 0.0625;", wanted=[575], before=SIZES)
 
 
 def main():
-    if sys.argv[1:] == ["cases"]:
-        for case in CASES:
-            pixels = " ".join(map(word_of, case["pixels"]))
-            files = "".join(f"#{name} {text}" for name, text in case["files"].items())
-            print(f"{case['name']} {case['path']} {pixels}{files}")
-    else:
-        for case in CASES:
-            print(case["end"])
+    print("file: crates/command_cases/data/cases")
+    for case in CASES:
+        pixels = " ".join(map(word_of, case["pixels"]))
+        files = "".join(f"#{name} {text}" for name, text in case["files"].items())
+        print(f"{case['name']} {case['path']} {pixels}{files}")
+    print("file: crates/command_cases/stdout")
+    for case in CASES:
+        print(case["end"])
 
 
 main()
