@@ -1,7 +1,7 @@
 #!/usr/bin/env python3
 """What the independent checker and evaluator say of the texts of language_texts.py.
 
-    tools/language_listing.py --list [expressions|modules|programs]    one line a text: its number and the answer
+    tools/language_listing.py --list [expressions|modules|programs|levels]    one line a text: its number and the answer
     tools/language_listing.py check                                    compares the answers with the marks in the texts
 
 Ends with 1 where an answer is not what the mark in its text says. The forms are spelled as language_spelling.py does.
@@ -13,6 +13,8 @@ sys.dont_write_bytecode = True
 import language_spelling as spelling
 from grammar_reader import lex
 from language_cases import DIFFERENT, SCOPES, expression_cases, last_printed, module_cases, program_cases
+from language_level_texts import level_texts
+from language_levels import Fault, checked, levels
 
 LONGEST = 1500
 
@@ -57,7 +59,38 @@ def program_lines():
         yield group, "\n".join(lines)
 
 
-PARTS = {"expressions": expression_lines, "modules": module_lines, "programs": program_lines}
+def level_word(varies):
+    return "v" if varies else "u"
+
+
+def instance_line(number, one):
+    """Its function and sizes, the levels of its parameters and its control, what varies, its result, and what it calls."""
+    key = one.key
+    name = " ".join([str(key.function), *map(str, key.sizes)])
+    parts = "".join(map(level_word, key.levels)) + level_word(key.control)
+    return f"    {number}: {name} {parts} {{{' '.join(map(str, sorted(one.varying)))}}} {level_word(one.result)} calls {' '.join(map(str, one.called))}".rstrip()
+
+
+def leveled_lines(program):
+    """The instances with the cells and the parts, or the refusal."""
+    leveled = levels(program, program.entry)
+    if isinstance(leveled, Fault):
+        node = "" if leveled.node is None else f" at {leveled.node[1]}"
+        return ["    " + " ".join([leveled.kind + node, *map(str, leveled.numbers)])]
+    total, varying = leveled.cells
+    return [instance_line(*one) for one in enumerate(leveled.instances)] + [f"    cells {total} {varying} parts {leveled.parts}"]
+
+
+def level_lines():
+    number = 0
+    for group, texts in level_texts():
+        for text in texts:
+            number += 1
+            name = "a.ctl" if "void a(" in text else "main.ctl"
+            yield group, "\n".join([f"l{number} {short(text)}", *leveled_lines(checked([(name, text)]))])
+
+
+PARTS = {"expressions": expression_lines, "modules": module_lines, "programs": program_lines, "levels": level_lines}
 
 
 def show(lines):

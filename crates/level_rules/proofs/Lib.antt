@@ -1,0 +1,5 @@
+pub mod Sums
+pub mod Calm
+pub mod Picks
+pub mod Unique
+pub mod Reach
