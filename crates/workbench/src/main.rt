@@ -5,7 +5,7 @@
 //! tokens, `parse` reads it as a module, and `count` counts its tokens. `pow`, `log2` and `exp2` make a thousand calls of
 //! that function each time, and `called` makes those of `pow` by its name in the language's library; they use no file.
 //! `transforms`, `tones` and `gammas` run one of the three programs of the built-in chain, written out by hand, on a
-//! thousand pixels each time.
+//! thousand pixels each time. `range`, `clip`, `sum`, `bins` and `map` show a line of 1,920 pixels to that watcher.
 #![tactic(auto)]
 
 use anyhow::{Result, bail};
@@ -18,6 +18,7 @@ use std::rt::{Env, Files};
 mod pixels;
 mod powers;
 mod texts;
+mod watchers;
 
 /// The most bytes of a file.
 const MOST_BYTES: u64 = 1 << 30;
@@ -52,6 +53,7 @@ fn sum_of(alloc: Global, work: &str, file: &[u8], times: u32) -> Result<u64> {
         "transforms" => Ok(pixels::transforms(times)),
         "tones" => Ok(pixels::tones(times)),
         "gammas" => Ok(pixels::gammas(times)),
+        "range" | "clip" | "sum" | "bins" | "map" => watchers::watched(alloc, work, times),
         _ => bail!("no such work"),
     }
 }
