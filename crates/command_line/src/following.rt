@@ -219,16 +219,16 @@ fn two_numbers(first: &TextArg, second: &TextArg) -> Result<[Fix; 3], Refusal>
     Ok([x, y, Fix::from_raw(0)])
 }
 
-fn three_numbers(first: &TextArg, second: &TextArg, third: &TextArg) -> Result<[Fix; 3], Refusal>
-    ensures { (kinds : List ℕ) (rest : List (List ℕ)) → TakesNumbers kinds Three (first.now ∷ second.now ∷ third.now ∷ rest) result }
+fn three_numbers(first: &TextArg, middle: &TextArg, last: &TextArg) -> Result<[Fix; 3], Refusal>
+    ensures { (kinds : List ℕ) (rest : List (List ℕ)) → TakesNumbers kinds Three (first.now ∷ middle.now ∷ last.now ∷ rest) result }
 {
     let Some(x) = number(first.as_str().as_bytes()) else {
         return Err(Refusal::At(2));
     };
-    let Some(y) = number(second.as_str().as_bytes()) else {
+    let Some(y) = number(middle.as_str().as_bytes()) else {
         return Err(Refusal::At(3));
     };
-    let Some(z) = number(third.as_str().as_bytes()) else {
+    let Some(z) = number(last.as_str().as_bytes()) else {
         return Err(Refusal::At(4));
     };
     Ok([x, y, z])
