@@ -2,9 +2,10 @@
 """Writes an example image to a path, or beside this script: examples/make_images.py IMAGE [PATH]
 
 in.dpx is one pixel of ten bits with the codes 1023, 0, 512. ramp.dpx has 1,920 by 1,080 pixels: red rises along each
-line, green down the lines, blue along both.
+line, green down the lines, blue along both. scene.dpx has 480 by 270 pixels as a camera with a logarithmic curve would give
+them: a sky over a field, the sun, and patches of grey and of colours.
 """
-import pathlib, struct, sys
+import math, pathlib, struct, sys
 
 NONE = b'\xff' * 4
 
@@ -32,8 +33,31 @@ def image(width, height, pixel):
     words = (r << 22 | g << 12 | b << 2 for y in range(height) for r, g, b in (pixel(x, y) for x in range(width)))
     return header(width, height) + struct.pack(f'>{width * height}I', *words)
 
+PATCHES = [(.44, .32, .27), (.77, .59, .51), (.36, .48, .61), (.35, .42, .26), (.84, .49, .17), (.28, .36, .65), (.76, .33, .38), (.37, .24, .42)]
+
+def light(x, y):
+    """The light of red, green and blue at a place of the scene."""
+    if 200 <= y < 255 and 20 <= x < 460:
+        column, at = (x - 20) // 55, (x - 20) % 55
+        if at < 48:
+            grey = 0.9 * 0.6 ** column
+            return [c ** 2.4 for c in PATCHES[column]] if y < 228 else [grey] * 3
+    sun = math.exp(-((x - 350) ** 2 + (y - 70) ** 2) / 900)
+    if y < 150:
+        share = y / 150
+        return [a + (b - a) * share + s * sun for a, b, s in [(.08, .55, .9), (.2, .6, .8), (.55, .7, .5)]]
+    share = (y - 150) / 120
+    wave = 0.02 * math.sin(x / 9 + y / 5)
+    return [a + (b - a) * share + wave for a, b in [(.16, .05), (.22, .09), (.05, .03)]]
+
+def scene(x, y):
+    """The codes of a logarithmic curve over two decades, with a straight line at its foot."""
+    curve = (10 * l if l < 0.01 else 1 + math.log10(l) / 2 for l in light(x, y))
+    return tuple(round(1023 * min(max(c, 0), 1)) for c in curve)
+
 IMAGES = {
     'in.dpx': lambda: image(1, 1, lambda x, y: (1023, 0, 512)),
+    'scene.dpx': lambda: image(480, 270, scene),
     'ramp.dpx': lambda: image(1920, 1080, lambda x, y: (x * 1023 // 1919, y * 1023 // 1079, (x + y) % 1024)),
 }
 

@@ -1,25 +1,30 @@
 #!/usr/bin/env python3
 """The cases of the program command_cases, and what the command does in each, from the independent checker and evaluator.
 
-It prints the files data/cases and stdout of crates/command_cases.
+It prints the files data/cases and stdout of crates/command_cases, and the page docs/OTHER_CTL.md, whose rows are cases.
 A case is its name, the module path, the pixels of the source, the files, of which the first is the text of the stage,
 and the files in load order, or what keeps them from being loaded. What is known of a case from elsewhere stands beside
 it, as the red codes, or as the line that is said, and is compared.
 """
+from pathlib import Path
 import sys
 
 sys.dont_write_bytecode = True
 
 from fix_num_tables import ONE
+from grammar_reader import verdict as grammar_verdict
 from language_checker import verdict
 from language_evaluator import run
 from language_types import TURNS
+from other_ctl_texts import FORMS, MEANINGS, NAMES, NUMBERS, PIXEL
 
 HEAD = (
     "void main(input varying float rIn, input varying float gIn, input varying float bIn, "
     "output varying float rOut, output varying float gOut, output varying float bOut)"
 )
 MOST = 1023
+EXAMPLES = Path(__file__).resolve().parent.parent / "examples"
+ANY = object()
 CASES = []
 
 
@@ -87,7 +92,7 @@ def add(name, files, red=(0,), green=0, blue=0, path="p", loaded=None, fetches=N
     }
     code, calls, pixels, line = end_of(case)
     found = line if pixels is None else [pixel[0] for pixel in pixels]
-    if found != wanted:
+    if wanted not in (found, ANY):
         print(f"{name}: {found}, but wanted {wanted}", file=sys.stderr)
     stored = " -" if pixels is None else "".join(" " + word_of(pixel) for pixel in pixels)
     said = "" if line is None else f" ctlrender: {line}"
@@ -234,6 +239,73 @@ one("three", "float p[3]; rOut = n(p) * 0.0625;", wanted=[192], before=SIZES)
 one("nine", "float q[9]; rOut = n(q) * 0.0625;", wanted=[575], before=SIZES)
 
 
+# What is written elsewhere, and what stands for it here.
+def refused(name, kind, text):
+    """A text in two lines: definitions, and the entry."""
+    before, body = text
+    text = f"{before}\\{whole(body)}"
+    line = 1 if before and body == "rOut = rIn;" else 2
+    if kind == "NotHere":
+        assert grammar_verdict(text.replace("\\", "\n"))[0] == kind, text
+    loaded = (5, f"r.ctl line {line}: {kind}") if kind in ("NotHere", "NoToken", "Literal") else None
+    add(name, {"r.ctl": text}, loaded=loaded, wanted=f"r.ctl line {line}: {kind}")
+
+
+def elsewhere(name, rows):
+    for number, (_, texts, _, accepted) in enumerate(rows, 1):
+        for place, (kind, text) in enumerate(texts):
+            if text is not None:
+                refused(f"{name}-{number}-{'abc'[place]}", kind, text)
+        if accepted is not None:
+            before, body = accepted
+            one(f"{name}-{number}", body, (341,), [341], before=before)
+
+
+elsewhere("names", NAMES)
+elsewhere("forms", FORMS)
+elsewhere("meanings", MEANINGS)
+add("pixel-in-a-struct", {"r.ctl": PIXEL}, wanted="r.ctl line 1: BadEntry")
+add("two-helpers", {"r.ctl": 'import "A";\\' + whole("rOut = halve(rIn);", HALVE + " "), "p/A.ctl": HALVE},
+    loaded=["p/A.ctl", "r.ctl"], fetches=2, wanted="r.ctl line 2: Twice")
+for number, (_, setting, tests) in enumerate(NUMBERS, 1):
+    hold(f"numbers-{number}", *tests, setting=setting)
+
+# The examples.
+def shipped(name, *imports):
+    texts = {path: (EXAMPLES / file).read_text().replace("\n", "\\") for path, file in [("r.ctl", name), *((f"p/{i}", i) for i in imports)]}
+    add(f"shipped-{name}", texts, (0, 1, 50, 102, 103, 400, 512, 700, 900, 1022, 1023), (1023, 900, 700, 512, 400, 103, 102, 101, 50, 1, 0),
+        (0, 512, 1023, 512, 0, 256, 768, 256, 0, 1023, 1023), loaded=[*(f"p/{i}" for i in imports), "r.ctl"], fetches=1 + len(imports), wanted=ANY)
+
+
+shipped("half.ctl")
+shipped("look.ctl")
+shipped("idt.ctl", "Curves.ctl")
+shipped("odt.ctl")
+
+
+PAGE = """# Coming from other CTL
+
+What transforms that were written for other interpreters use, and this language refuses or reads otherwise: what is said, and
+what to write instead. Each row of the tables is a case of the program command_cases, with a text that is refused so and, where
+there is one, a text that is accepted and gives red as it is. This page is printed by `tools/command_cases_tables.py`.
+"""
+
+
+def page():
+    yield PAGE
+    for title, rows in [("Names", NAMES), ("Forms", FORMS), ("Meanings", MEANINGS)]:
+        yield f"## {title}\n\n| construct | said | instead |\n|---|---|---|"
+        for construct, texts, instead, _ in rows:
+            kinds = dict.fromkeys(kind for kind, _ in texts)
+            yield f"| {construct} | {', '.join(f'`{kind}`' for kind in kinds)} | {instead} |"
+        yield ""
+    yield "A name that stands in two modules is told in the one that is loaded later.\n"
+    yield "## Numbers\n"
+    for sentence, setting, tests in NUMBERS:
+        shown = ", ".join(f"`{test}`" for test in tests)
+        yield f"- {sentence} {f'With `{setting.strip()}`: ' if setting else 'So '}{shown}."
+
+
 def main():
     print("file: crates/command_cases/data/cases")
     for case in CASES:
@@ -243,6 +315,8 @@ def main():
     print("file: crates/command_cases/stdout")
     for case in CASES:
         print(case["end"])
+    print("file: docs/OTHER_CTL.md")
+    print("\n".join(page()))
 
 
 main()

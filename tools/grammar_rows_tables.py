@@ -1,8 +1,9 @@
 #!/usr/bin/env python3
-"""Modules, faulty texts and nestings: the tables of the grammar's tests, from the readers of grammar_reader.py.
+"""Modules, faulty texts and nestings as the program grammar_rows reads them, and what it must say of them, from the
+readers of grammar_reader.py.
 
-    tools/grammar_rows_tables.py                          prints the tables by the descent, as check_tables reads them
-    tools/grammar_rows_tables.py check [COUNT [SEED]]     compares both readers: on each table, on each text within each
+    tools/grammar_rows_tables.py                          prints both by the descent, as check_tables reads them
+    tools/grammar_rows_tables.py check [COUNT [SEED]]     compares both readers: on each line, on each text within each
                                                           limit, and on lists of tokens made from the texts
 
 The texts stand in grammar_texts.py.
@@ -65,8 +66,8 @@ def compare(tokens, limit):
 def check(count, seed):
     global BOTH
     BOTH = True
-    for file, make in files().items():
-        make(file)
+    for _ in lines():
+        pass
     texts = module_texts() + STAGES
     kinds = {}
     for text in texts:
@@ -96,63 +97,47 @@ def coverage(texts):
     print(f"{len(ways & read)} of {len(ways)} ways of the grammar are read")
 
 
-# ---- the tables
+# ---- the lines, each with what is said of it
 
 
-def literal(text):
-    stands = {'"': '\\"', "\\": "\\\\", "\n": "\\n", "\t": "\\t"}
-    return '"' + "".join(stands.get(c) or (c if 32 <= ord(c) < 127 else f"\\u{{{ord(c):x}}}") for c in text) + '"'
+def escaped(text):
+    """A text as a part of a line: a byte that is not printable, a `\\` and a `$` as a `\\` and two hexadecimal digits."""
+    return "".join(chr(b) if 32 <= b < 127 and b not in b"\\$" else f"\\{b:02x}" for b in text.encode())
 
 
-def table(name, comment, kind, rows):
-    lines = [f"// {comment}", f"pub static {name}: [{kind}; {len(rows)}] = ["]
-    return "\n".join(lines + [f"    {row}," for row in rows] + ["];", ""])
+def repeated(head, times, opening, core="", closing="", tail=""):
+    """A text in which pieces are repeated, as a line has it."""
+    parts = [escaped(head), str(times), escaped(opening), escaped(core)]
+    if closing:
+        parts += [str(times), escaped(closing), escaped(tail)]
+    else:
+        parts[-1] += escaped(tail)
+    return "$".join(parts)
 
 
-def upper(name):
-    return name.replace(" ", "_").upper()
-
-
-def made_by(file, about, uses):
-    return f"//! {about}\n//! Printed by tools/grammar_rows_tables.py.\n\n{uses}\n"
-
-
-def wrapped_fault(text):
-    """The nesting of a module, and the token at which a limit one below it is passed."""
+def fault_line(text, kind, at):
+    """A fault in words."""
     tokens = lex(text)
-    nesting = descend(tokens)[1]
-    if nesting == 0:
-        return 0, 0
-    kind, at = compare(tokens, nesting - 1)
-    assert kind == "Depth"
-    return nesting, at
+    line = tokens[at].line if at < len(tokens) else end_line(text)
+    return f"{'too deep' if kind == 'Depth' else 'not here'}: token {at}, line {line}"
 
 
-def modules_file(file, groups):
-    out = [made_by(file, "Modules with their spellings.", "use crate::reading::{Nested, Told};")]
-    for name, texts in groups:
-        rows = [f"({literal(text)}, {literal(verdict(text)[0])})" for text in texts]
-        out.append(table(upper(name), f"{name.capitalize()}.", "Told", rows))
-        if name != "whole texts":
-            rows = [str(wrapped_fault(text)) for text in texts]
-            comment = "The nesting of each, and the token with which it is reached first."
-            out.append(table(upper(name) + "_NESTED", comment, "Nested", rows))
-    return "\n".join(out)
+def spelling_line(text):
+    found = verdict(text)
+    assert found[0].startswith("("), text
+    return f"= {escaped(text)}", found[0]
 
 
-def faults_file(file, groups):
-    about = "Texts that spell no module, with the token and the line of the fault."
-    out = [made_by(file, about, "use crate::reading::Refused;")]
-    for name, texts in groups:
-        rows = []
-        for text in texts:
-            kind, at = verdict(text)
-            tokens = lex(text)
-            assert kind == "NotHere", text
-            line = tokens[at].line if at < len(tokens) else end_line(text)
-            rows.append(f"({literal(text)}, {at}, {line})")
-        out.append(table(upper(name), f"{name.capitalize()}.", "Refused", rows))
-    return "\n".join(out)
+def refusal_line(text):
+    kind, at = verdict(text)
+    assert kind == "NotHere", text
+    return f"= {escaped(text)}", fault_line(text, kind, at)
+
+
+def short_line(text, line=None):
+    """Whether a text is a module, or its fault."""
+    fault = compare(lex(text), LIMIT)
+    return f"- {line or escaped(text)}", "module" if fault is None else fault_line(text, *fault)
 
 
 def places(chart):
@@ -161,20 +146,12 @@ def places(chart):
     return {(name, way, dot) for name, way, dot in moved if way[dot - 1][1] is None}
 
 
-def parts(rows, name, comment, kind):
-    """Tables of at most 25 rows."""
-    words = "FIRST SECOND THIRD FOURTH FIFTH SIXTH SEVENTH EIGHTH NINTH TENTH".split()
-    cut = [rows[at : at + 25] for at in range(0, len(rows), 25)]
-    return [table(f"{word}_{name}", comment, kind, part) for word, part in zip(words, cut, strict=False)]
-
-
-def cut_row(text):
-    """The lengths of the lists of tokens in front that are modules, the whole left out."""
+def cut_line(text):
+    """What stands in front of each token: a module, or the fault is at its end."""
     tokens = lex(text)
     faults = [compare(tokens[:at], LIMIT) for at in range(len(tokens))]
     assert all(fault in (None, ("NotHere", at)) for at, fault in enumerate(faults))
-    wholes = [at for at, fault in enumerate(faults) if fault is None]
-    return f"({literal(text)}, &[{', '.join(map(str, wholes))}])"
+    return f"c {escaped(text)}", "".join("m" if fault is None else "h" for fault in faults)
 
 
 def places_of(text):
@@ -185,7 +162,7 @@ def places_of(text):
     return seen
 
 
-def cuts_file(file):
+def cut_lines():
     chosen, seen = [], set()
     texts = {text: places_of(text) for text in module_texts()}
     while True:
@@ -194,19 +171,24 @@ def cuts_file(file):
             break
         chosen.append(text)
         seen |= texts[text]
-    about = "Texts, and after how many of their first tokens a module ends, the whole left out."
-    out = [made_by(file, about, "use crate::cuts::Cut;")]
-    return "\n".join(out + parts([cut_row(text) for text in chosen + STAGES], "CUTS", "Texts to be cut.", "Cut"))
+    return [cut_line(text) for text in chosen + STAGES]
 
 
-def follow_row(text):
+def followed(tokens, sample):
+    """A letter for a token behind others: with it there is a module, one can go on, it is too deep, or it is not here."""
+    fault = compare(tokens + lex(sample), LIMIT)
+    letters = {None: "m", ("NotHere", len(tokens) + 1): "g", ("NotHere", len(tokens)): "h", ("Depth", len(tokens)): "d"}
+    return letters[fault]
+
+
+def follow_line(text):
     tokens = lex(text)
-    viable = [sample for sample in SAMPLES if compare(tokens + lex(sample), LIMIT) != ("NotHere", len(tokens))]
+    letters = "".join(followed(tokens, sample) for sample in SAMPLES)
     if BOTH:
         terminals = chart_of(tokens, ANY, NO_LIMIT)[0].terminals()
-        fitting = [sample for sample in SAMPLES if any(fits(terminal, lex(sample)[0]) for terminal in terminals)]
-        assert viable == fitting, text
-    return f"({literal(text)}, {len(tokens)}, {literal(' '.join(viable))})"
+        fitting = [any(fits(terminal, lex(sample)[0]) for terminal in terminals) for sample in SAMPLES]
+        assert [letter in "mg" for letter in letters] == fitting, text
+    return f"+ {escaped(text)}", letters
 
 
 def prefixes():
@@ -218,20 +200,15 @@ def prefixes():
     return sorted(found, key=lambda spans: (len(spans), len(" ".join(spans)), spans))
 
 
-def follows_file(file):
-    rows, seen = [], set()
+def follow_lines():
+    seen = set()
     for spans in prefixes():
         text = " ".join(spans).encode("latin-1").decode()
         chart, _ = chart_of(lex(text), ANY, NO_LIMIT)
         new = places(chart) - seen
         if new or not spans:
             seen |= new
-            rows.append(follow_row(text))
-    samples = ", ".join(literal(sample) for sample in SAMPLES)
-    about = "Beginnings of modules, how many tokens they have, and which tokens can follow."
-    out = [made_by(file, about, "use crate::follows::Follow;")]
-    out.append(f"// The tokens that are tried.\npub static SAMPLES: [&str; {len(SAMPLES)}] = [{samples}];\n")
-    return "\n".join(out + parts(rows, "FOLLOWS", "Beginnings.", "Follow"))
+            yield follow_line(text)
 
 
 def way_text(way, times):
@@ -255,58 +232,72 @@ def most_times(way, limit):
     return times, at
 
 
-def way_row(way):
-    """The row of a way. The token of the fault is so many tokens for each repetition that is accepted, and some."""
+def grows_evenly(way):
+    """The token of the fault is so many tokens for each repetition that is accepted, and some, at smaller limits too."""
     times, at = most_times(way, LIMIT)
-    each = len(lex(way[2]))
     step = (depth(way, 5) - depth(way, 1)) // 4
     for limit in range(8, 20, 4):
         fewer, place = most_times(way, limit)
-        assert (times - fewer) * step == LIMIT - limit and at - place == each * (times - fewer), way
-    texts = ", ".join(literal(part) for part in way[1:])
-    return f"({texts}, {times}, {at - each * times}, {each})"
+        assert (times - fewer) * step == LIMIT - limit and at - place == len(lex(way[2])) * (times - fewer), way
 
 
-def limit_row(way):
-    """The tokens that are too deep after what stands in front of the fault of a way, and those that go on."""
+def front_of(way, count):
+    """The text of a way up to so many of its tokens, repeated once too often, as a text and as a line has it."""
+    times, _ = most_times(way, LIMIT)
+    text = way_text(way, times + 1)
+    tokens = lex(text)
+    front = text[: tokens[count - 1].at + len(tokens[count - 1].span)] if count else ""
+    _, head, opening, *_ = way
+    whole = max(n for n in range(times + 2) if front.startswith(head + opening * n))
+    return front, repeated(head, whole, opening, front[len(head) + len(opening) * whole :])
+
+
+def way_lines(way):
+    """A way up to the limit, once more, and what stands in front of the fault without and with its token."""
     times, at = most_times(way, LIMIT)
-    tokens = lex(way_text(way, times + 1))[:at]
-    faults = {sample: compare(tokens + lex(sample), LIMIT) for sample in SAMPLES}
-    deep = [sample for sample, fault in faults.items() if fault == ("Depth", at)]
-    going = [sample for sample, fault in faults.items() if fault in (None, ("NotHere", at + 1))]
-    assert all(faults[sample] == ("NotHere", at) for sample in SAMPLES if sample not in deep + going)
+    for count in (times, times + 1):
+        yield short_line(way_text(way, count), repeated(way[1], count, way[2], way[3], way[4], way[5]))
+    for count in (at, at + 1):
+        yield short_line(*front_of(way, count))
+
+
+def limit_line(way):
+    """The tokens behind what stands in front of the fault of a way."""
+    _, at = most_times(way, LIMIT)
+    front, line = front_of(way, at)
+    tokens = lex(front)
+    letters = "".join(followed(tokens, sample) for sample in SAMPLES)
     if BOTH:
         any_depth, within = (chart_of(tokens, *how)[0].terminals() for how in ((ANY, NO_LIMIT), (NEAREST, LIMIT)))
-        fitting = [sample for sample in SAMPLES if any(fits(terminal, lex(sample)[0]) for terminal in within)]
-        any_fitting = [sample for sample in SAMPLES if any(fits(terminal, lex(sample)[0]) for terminal in any_depth)]
-        assert going == fitting and deep == [sample for sample in any_fitting if sample not in fitting], way
-    return f"({literal(' '.join(deep))}, {literal(' '.join(going))})"
+        fitting = [any(fits(terminal, lex(sample)[0]) for terminal in within) for sample in SAMPLES]
+        any_fitting = [any(fits(terminal, lex(sample)[0]) for terminal in any_depth) for sample in SAMPLES]
+        assert [letter in "mg" for letter in letters] == fitting, way
+        assert [letter == "d" for letter in letters] == [a and not b for a, b in zip(any_fitting, fitting)], way
+    return f"+ {line}", letters
 
 
-def nested_file(file):
-    about = "Ways in which forms stand in forms."
-    out = [made_by(file, about, "use crate::limits::Limit;\nuse crate::nested::Way;")]
-    out += parts([way_row(way) for way in WAYS], "WAYS", "Ways.", "Way")
-    comment = "What is too deep where a way is repeated once too often, and what goes on there."
-    return "\n".join(out + parts([limit_row(way) for way in WAYS], "LIMITS", comment, "Limit"))
+def in_namespaces(text):
+    """Definitions in namespaces, as a way."""
+    return ("namespaces", "", "namespace n {", text, "}", "")
 
 
-def stages_file(file):
-    out = [made_by(file, "The three texts that a chain of the product is made of.", "use crate::reading::Told;")]
-    names = "FIRST SECOND THIRD".split()
-    rows = []
-    for name, text in zip(names, STAGES):
-        out.append(f"/// The text of a stage.\npub const {name}_STAGE: &str = {literal(text)};\n")
-        rows.append(f"({name}_STAGE, {literal(verdict(text)[0])})")
-    out.append(table("STAGES", "The stages with their spellings.", "Told", rows))
-    return "\n".join(out)
-
-
-def files():
-    made = {f"modules/{part}": lambda f, p=part: modules_file(f, MODULES[p]) for part in MODULES}
-    made |= {f"faults/{part}": lambda f, p=part: faults_file(f, REFUSED[p]) for part in REFUSED}
-    made |= {"cuts/tables": cuts_file, "follows/tables": follows_file}
-    return made | {"nested/tables": nested_file, "stages": stages_file}
+def lines():
+    """Each line that the program reads, with what it says of it; the first has the tokens that are tried."""
+    yield "s " + " ".join(SAMPLES), f"{len(SAMPLES)} tokens"
+    yield from map(spelling_line, module_texts() + STAGES)
+    for groups in REFUSED.values():
+        for _, texts in groups:
+            yield from map(refusal_line, texts)
+    yield from cut_lines()
+    yield from follow_lines()
+    for way in WAYS:
+        grows_evenly(way)
+        yield from way_lines(way)
+        yield limit_line(way)
+    for groups in MODULES.values():
+        for name, texts in groups:
+            for text in texts if name != "whole texts" else []:
+                yield from way_lines(in_namespaces(text))
 
 
 def main(words):
@@ -314,9 +305,10 @@ def main(words):
         numbers = [int(word) for word in words[1:]] + [2000, 7][len(words) - 1 :]
         check(*numbers)
     elif not words:
-        for file, make in files().items():
-            print(f"file: crates/grammar_rows/src/{file}.rt")
-            print(make(file))
+        read, said = zip(*lines())
+        for path, texts in [("stdin", read), ("stdout", said)]:
+            print(f"file: crates/grammar_rows/{path}")
+            print("\n".join(texts))
     else:
         sys.exit(__doc__)
 

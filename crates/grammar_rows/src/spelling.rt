@@ -1,4 +1,4 @@
-//! Modules as short texts, for tests: each form in round brackets, with its name, its own token
+//! Modules as short texts: each form in round brackets, with its name, its own token
 //! after an `@`, and what stands in it. Names stand as they are, numbers by their values, a float
 //! or half by its raw, and a text in quotes, with each byte that is not printable as `\x` and two
 //! hexadecimal digits.

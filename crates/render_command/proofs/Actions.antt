@@ -1,8 +1,8 @@
 -- Of actions one after the other: one answer of each makes one answer.
-use Rattle.std.proofs.Common.{◌≡◌, ℕ, List, [], ◌∷◌, ◌++◌, Result, Ok, Err, refl, sym, subst, ap, ◌∙◌}
-use Rattle.outside.specs.Calls.{FileCall, FileCallKind}
+use Rattle.std.proofs.Common.{◌≡◌, ℕ, List, [], ◌∷◌, ◌++◌, false, Result, Ok, Err, refl, sym, subst, ap, ◌∙◌}
+use Rattle.outside.specs.Calls.{FileCall, FileCallKind, file_call}
 use Rattle.command_status.specs.declared.status.Status.{Status}
-use Rattle.render_command.specs.Actions.{Action, Step, Answers, is_told, given_up, Asks, is_answered, box_fails, not_asked, no_room, Then, stops, goes_on, IsTold, AtMostOne, AtLeastOne}
+use Rattle.render_command.specs.Actions.{Answers, is_told, given_up, Asks, is_answered, box_fails, not_asked, no_room, Then, stops, goes_on, IsTold, AtMostOne, AtLeastOne}
 
 -- the same answer after the same calls
 abbrev Same : {A : Type 0} → Result A Status → Result A Status → List FileCall → List FileCall → Type 0
@@ -67,6 +67,17 @@ then_one first second f g = λ before after elsewhere r r' h k t t'. same_then f
 
 -- ---- there is an answer
 
+-- nothing is asked
+pub answers_some : {A : Type 0} (told : Result A Status → Type 0) (answer : Result A Status) → IsTold answer → told answer → AtLeastOne (Answers told)
+answers_some told answer t h = λ before. (before, answer, t, is_told h)
+
+pub lifted_some : {A B : Type 0} (f : A → Result B Status) (a : A) → IsTold (f a) → AtLeastOne (Answers (λ answer. f a ≡ answer))
+lifted_some f a t = answers_some (λ answer. f a ≡ answer) (f a) t refl
+
+-- one call
+pub asks_some : {A : Type 0} (kind : FileCallKind) (name : List ℕ) (told : Result A Status) → IsTold told → AtLeastOne (Asks kind name told)
+asks_some kind name told t = λ before. (before ++ file_call kind name false ∷ [], told, t, is_answered refl refl)
+
 some_then : {A B : Type 0} (first : List FileCall → List FileCall → Result A Status → Type 0) (second : A → List FileCall → List FileCall → Result B Status → Type 0) (before after : List FileCall) (r : Result A Status) → IsTold r
     → first before after r → ((x : A) → first before after (Ok x) → AtLeastOne (second x)) → (end : List FileCall) × (answer : Result B Status) × IsTold answer × Then first second before end answer
 some_then first second before after (Err e) t h more = (after, Err e, t, stops h)
@@ -75,3 +86,40 @@ some_then first second before after (Ok x) t h more = let q = more x h after in 
 pub then_some : {A B : Type 0} (first : List FileCall → List FileCall → Result A Status → Type 0) (second : A → List FileCall → List FileCall → Result B Status → Type 0) → AtLeastOne first
     → ((before after : List FileCall) (x : A) → first before after (Ok x) → AtLeastOne (second x)) → AtLeastOne (Then first second)
 then_some first second f g = λ before. let q = f before in some_then first second before q.0 q.1 q.2 q.3 (λ x h. g before q.0 x h)
+
+-- ---- what a value comes from
+
+answers_value : {A : Type 0} {told : Result A Status → Type 0} {a b : List FileCall} {r : Result A Status} (x : A) → Answers told a b r → r ≡ Ok x → told (Ok x)
+answers_value {told = told} x (is_told h) e = subst told e h
+answers_value x given_up e = absurd cc
+
+-- of what asks nothing
+pub lifted_value : {A B : Type 0} (f : A → Result B Status) (a : A) (before after : List FileCall) (x : B) → Answers (λ answer. f a ≡ answer) before after (Ok x) → f a ≡ Ok x
+lifted_value f a before after x h = answers_value x h refl
+
+asks_value : {A : Type 0} {kind : FileCallKind} {name : List ℕ} {told r : Result A Status} {a b : List FileCall} (x : A) → Asks kind name told a b r → r ≡ Ok x → told ≡ Ok x
+asks_value x (is_answered e c) f = e ∙ f
+asks_value x (box_fails c) f = absurd cc
+asks_value x not_asked f = absurd cc
+asks_value x (no_room c) f = absurd cc
+
+-- of one call
+pub asked_value : {A : Type 0} (kind : FileCallKind) (name : List ℕ) (told : Result A Status) (before after : List FileCall) (x : A) → Asks kind name told before after (Ok x) → told ≡ Ok x
+asked_value kind name told before after x h = asks_value x h refl
+
+-- the value of the first action, and what the second step makes of it
+pub record Through {A B : Type 0} (first : List FileCall → List FileCall → Result A Status → Type 0) (second : A → List FileCall → List FileCall → Result B Status → Type 0) (before after : List FileCall) (b : B) : Type 0 where
+  pub between : List FileCall
+  pub a : A
+  pub made : first before between (Ok a)
+  pub on : second a between after (Ok b)
+
+then_value : {A B : Type 0} {first : List FileCall → List FileCall → Result A Status → Type 0} {second : A → List FileCall → List FileCall → Result B Status → Type 0} {before after : List FileCall} {r : Result B Status} (x : B)
+    → Then first second before after r → r ≡ Ok x → Through first second before after x
+then_value x (stops h) e = absurd cc
+then_value {second = second} {after = after} x (goes_on {between = between} {a = a} h k) e = record { between = between; a = a; made = h; on = subst (λ (r : Result _ Status). second a between after r) e k }
+
+-- of one after the other
+pub through : {A B : Type 0} (first : List FileCall → List FileCall → Result A Status → Type 0) (second : A → List FileCall → List FileCall → Result B Status → Type 0) (before after : List FileCall) (x : B) → Then first second before after (Ok x)
+    → Through first second before after x
+through first second before after x h = then_value x h refl

@@ -1,5 +1,6 @@
 -- The lemmas of this crate.
 mod Actions
 mod Verdicts
+mod Judging
 mod Stepping
 mod Ended

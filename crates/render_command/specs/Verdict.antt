@@ -3,7 +3,7 @@ use Rattle.std.specs.Prelude.{◌≡◌, ℕ, List, length, Option, Some, None, 
 use Rattle.std.specs.FinMap as files
 use Rattle.ctl_base.specs.declared.limits.TheConstants.{IMAGE_BYTES}
 use Rattle.ctl_tree.specs.Units.{SourceUnit, line_of_node}
-use Rattle.ctl_types.specs.Scoping.{ProgramForm, IsProgram}
+use Rattle.ctl_types.specs.Scoping.{ProgramForm}
 use Rattle.ctl_types.specs.Run.{Fault, Trapped, Wrong}
 use Rattle.ctl_check_rules.specs.Faults.{Fault as RuleFault}
 use Rattle.ctl_check_function.specs.Programs.{checked_program}
@@ -17,6 +17,7 @@ use Rattle.dpx_file.specs.Plain.{PlainImage}
 use Rattle.dpx_file.specs.Reading.{dpx_reading}
 use Rattle.dpx_file.specs.declared.fault.DpxFault.{DpxFault}
 use Rattle.dpx_file.specs.Writing.{dpx_writing}
+use Rattle.dpx_laws.specs.Laws.{AreBytes}
 use Rattle.command_words.specs.Command.{Command, command_of}
 use Rattle.command_status.specs.declared.status.ImageFault.TheVariants.{Absent, TooLong, Dpx}
 use Rattle.command_status.specs.declared.status.SourceFault.TheVariants as source
@@ -136,11 +137,10 @@ Judges held path words = lifted command_in (command_of words) >>= planned held p
 abbrev pub OneVerdict : Type 0
 OneVerdict = (held : Held) (path : List ℕ) (words : List (List ℕ)) → AtMostOne (Judges held path words)
 
--- what is checked keeps the rules of programs
-abbrev pub CheckedKeepRules : Type 0
-CheckedKeepRules = (held : Held) (path root : List ℕ) (before after : List FileCall) (units : List SourceUnit) (program : ProgramForm) → LoadOrder held path root before after (Ok units)
-    → checked_program units ≡ Ok program → IsProgram program
+-- each file is bytes, numbers below 256
+abbrev pub HoldsBytes : Held → Type 0
+HoldsBytes held = (name bytes : List ℕ) → files.get held name ≡ Some bytes → AreBytes bytes
 
--- whatever the words and the files, there is a verdict
+-- whatever the words and the path, and whatever files of bytes are held, there is a verdict
 abbrev pub SomeVerdict : Type 0
-SomeVerdict = (held : Held) (path : List ℕ) (words : List (List ℕ)) → AtLeastOne (Judges held path words)
+SomeVerdict = (held : Held) (path : List ℕ) (words : List (List ℕ)) → HoldsBytes held → AtLeastOne (Judges held path words)

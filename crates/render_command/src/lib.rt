@@ -5,4 +5,4 @@ mod order;
 mod steps;
 
 pub use command_status::{ImageFault, SourceFault, Status};
-pub use order::{one_verdict, render};
+pub use order::{one_verdict, render, some_verdict};

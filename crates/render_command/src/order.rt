@@ -8,7 +8,7 @@ ghost use Rattle.outside.specs.Calls.{FileCall};
 ghost use Rattle.outside.specs.Causes.{Rose};
 ghost use Rattle.outside.specs.Files.{Held};
 ghost use Rattle.render_command.specs.Ends.{Counted, Ends, Finishes};
-ghost use Rattle.render_command.specs.Verdict.{Judges, OneVerdict, Plan};
+ghost use Rattle.render_command.specs.Verdict.{Judges, OneVerdict, Plan, SomeVerdict};
 
 use crate::steps::canvas_of;
 use command_status::{Status, say_status};
@@ -56,6 +56,19 @@ pub fn one_verdict()
     ensures { OneVerdict }
 {
     module_path::at_most_one();
+}
+
+/// And it has one, whatever the words and the path, and whatever files are held: a plan, or a status at which a step stops.
+/// Nothing is taken for granted of the files but that they are bytes, numbers below 256, as all files are. A program that
+/// is checked has a meaning on each pixel of an image that is read, so no pixel is without an answer.
+pub fn some_verdict()
+    ensures { SomeVerdict }
+{
+    module_path::at_least_one();
+    program_laws::loaded_programs_keep_rules();
+    dpx_laws::read_images_keep_rules();
+    render_tree::stages_keep_rules();
+    render_tree::stages_render_well();
 }
 
 // The steps, and nothing said.

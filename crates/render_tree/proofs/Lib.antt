@@ -8,3 +8,4 @@ mod Passed
 mod Standing
 mod Given
 mod Runs
+mod Meaning

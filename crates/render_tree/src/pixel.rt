@@ -47,7 +47,7 @@ pub(crate) fn render_pixel(
 }
 
 // The inputs of a stage fit its entry.
-fn inputs_fit()
+pub(crate) fn inputs_fit()
     ensures { InputsFit }
 {
     fix_num::codes_stay_in_range();

@@ -1,0 +1,13 @@
+mod Apart
+mod Behind
+mod BlockList
+mod Blocks
+mod Counted
+mod Fitting
+mod Flags
+mod Joins
+mod Moves
+mod Reading
+mod Runs
+mod Turns
+mod Wholes

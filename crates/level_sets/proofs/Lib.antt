@@ -1,0 +1,9 @@
+pub mod Lists
+pub mod Picked
+pub mod Walks
+pub mod Called
+pub mod Closing
+pub mod Sizes
+pub mod Forms
+pub mod Marks
+pub mod Passing

@@ -1,0 +1,8 @@
+use Rattle.std.proofs.Common.{◌≡◌, ◌+◌, drop}
+use Rattle.level_rules.specs.Rules.{both_found}
+use Rattle.level_sets.specs.Marks.{tells_mark}
+use Rattle.level_sets.specs.Calls.{arguments_of, outputs_seen}
+use Rattle.level_sets.proofs.calls.put_outputs.Given as goal
+
+abbrev pub invariant-loop-k : goal.invariant-loop-k
+invariant-loop-k l = both_found l.found (outputs_seen (λ k. tells_mark l.scene.rows l.instance (k + 1)) l.k (arguments_of l.scene (drop l.k l.arguments)) l.looks l.control) ≡ both_found l.fn.found (outputs_seen (λ k. tells_mark l.scene.rows l.instance (k + 1)) 0 (arguments_of l.scene l.arguments) l.looks l.control)

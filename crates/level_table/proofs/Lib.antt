@@ -1,0 +1,5 @@
+mod Rows
+mod Found
+mod Equal
+mod Variables
+mod Visits
